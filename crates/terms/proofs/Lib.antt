@@ -1,0 +1,3 @@
+pub mod Masks
+pub mod Words
+pub mod Checking
