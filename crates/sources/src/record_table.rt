@@ -6,6 +6,8 @@ ghost use Rattle.std.specs.Results.{Cases};
 ghost use Rattle.terms.specs.Refusals.{Told, told};
 ghost use Rattle.sources.specs.Meanings.{Limits};
 ghost use Rattle.sources.specs.Tables.{inTable, tableMeaning, Opening};
+use crate::source::MOST_AXIOMS;
+use crate::source::MOST_ROLES;
 use crate::source::Source;
 use terms::Axiom;
 use terms::ClassSet;
@@ -25,10 +27,7 @@ pub struct RecordTable<'a> {
 fn check(classes: u8, roles: u8, records: &[Axiom]) -> Result<(), Fault>
     ensures { λ r. ⌜ Opening classes roles (now (records .entry)) (told r) ⌝ }
 {
-    if classes > ClassSet::MOST
-        || roles > RecordTable::MOST_ROLES
-        || records.len() > RecordTable::MOST_RECORDS
-    {
+    if classes > ClassSet::MOST || roles > MOST_ROLES || records.len() > MOST_AXIOMS {
         return Err(Refusal::TooMany.at(0, Layer::RecordTable));
     }
     for (i, record) in records.iter().enumerate() {
@@ -38,12 +37,6 @@ fn check(classes: u8, roles: u8, records: &[Axiom]) -> Result<(), Fault>
 }
 
 impl<'a> RecordTable<'a> {
-    /// There are at most this many roles.
-    pub const MOST_ROLES: u8 = 16;
-
-    /// There are at most this many records.
-    pub const MOST_RECORDS: usize = 1024;
-
     /// The empty table: no classes, roles or records.
     pub fn new() -> Self
         ensures empty { λ r. ⌜ tableMeaning (r .classes) (r .roles) (now (r .records)) ≡ tableMeaning 0 0 [] ⌝ }

@@ -10,6 +10,12 @@ ghost use Rattle.sources.specs.Meanings.{Meaning, Limits, nameOf};
 use terms::Axiom;
 use terms::Fault;
 
+/// A source has at most this many roles.
+pub const MOST_ROLES: u8 = 16;
+
+/// A source has at most this many axioms.
+pub const MOST_AXIOMS: usize = 1024;
+
 /// A list of axioms over numbered classes and roles, the classes with names.
 ///
 /// It answers from its meaning, changes nothing, and refuses a number past the end. Its contracts speak of a source that keeps

@@ -1,0 +1,1 @@
+//! A sheet as a source of axioms.
