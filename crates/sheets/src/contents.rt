@@ -6,7 +6,7 @@ use terms::Axiom;
 /// A sheet of axioms, which lives wholly in its own value: at most 64 classes and 16 roles by name, and 1,024 axioms.
 #[derive(Drop)]
 pub struct Sheet {
-    classes: Row<Name, 64>,
-    roles: Row<Name, 16>,
-    axioms: Row<Axiom, 1024>,
+    pub(crate) classes: Row<Name, 64>,
+    pub(crate) roles: Row<Name, 16>,
+    pub(crate) axioms: Row<Axiom, 1024>,
 }

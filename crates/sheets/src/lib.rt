@@ -11,3 +11,4 @@ mod reading;
 mod row;
 
 pub use contents::Sheet;
+pub use reading::SheetSource;

@@ -1,10 +1,13 @@
 -- Checks leave one answer open.
-use mathlib.Core.Path.{_≡_, sym, ap, _∙_}
+use mathlib.Core.Path.{_≡_, refl, sym, subst, _∙_}
 use mathlib.Core.Logic.{_⊎_, inl, inr}
 use Prim.Native.Nat.{ℕ}
 use Rattle.terms.specs.declared.axioms.Axiom.{Axiom}
 use Rattle.terms.specs.Axioms.{axiomChecks, WellFormed}
-use Rattle.terms.specs.Refusals.{Checks, end, check, Passes, FirstFailing, Told, done, refused}
+use Rattle.terms.specs.declared.refusals.Fault.{Fault}
+use Rattle.terms.specs.declared.refusals.Layer.{Layer}
+use Rattle.terms.specs.declared.refusals.Refusal.{Refusal}
+use Rattle.terms.specs.Refusals.{number, Told, done, refused, Checks, end, check, Passes, FirstFailing, Answers}
 
 pub first-not-passed : (cs : Checks) (n : ℕ) → FirstFailing cs n → Passes cs → ⊥
 first-not-passed end n f p = f
@@ -37,3 +40,13 @@ axiom-later c r a rest n p f = inr (p .0, inr (p .1 .0, f))
 
 pub axiom-formed : (c r : ℕ) (a : Axiom) → Passes (axiomChecks c r a end) → WellFormed c r a
 axiom-formed c r a p = (p .0, p .1 .0)
+
+-- a refusal that code makes at the first check that fails
+pub refuses : (cs : Checks) (place : ℕ) (layer : Layer) (kind : Refusal) (f : Fault) → f ≡ record { kind = kind; place = place; layer = layer } → FirstFailing cs (number kind)
+    → FirstFailing cs (number (f .kind)) × (f .place ≡ place) × (f .layer ≡ layer)
+refuses cs place layer kind f e h =
+    subst (λ g. FirstFailing cs (number (g .kind)) × (g .place ≡ place) × (g .layer ≡ layer)) (sym e) (h, refl, refl)
+
+pub answers-weaker : {V : Type 0} (cs : Checks) (place : ℕ) (layer : Layer) (P Q : V → Type 0) (t : Told V) → ((v : V) → P v → Q v) → Answers cs place layer P t → Answers cs place layer Q t
+answers-weaker cs place layer P Q (done v) f a = (a .0, f v (a .1))
+answers-weaker cs place layer P Q (refused n p y) f a = a
