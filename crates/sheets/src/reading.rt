@@ -1,9 +1,11 @@
 //! A sheet as a source of axioms, and its names.
 ghost use mathlib.Core.Path.{_≡_};
 ghost use mathlib.Core.List.{[]};
-ghost use Prim.Native.Nat.{_<_, _≤_};
+ghost use Prim.Native.Nat.{ℕ, _<_, _≤_};
 ghost use lib.ListN.{length, getD};
 ghost use Rattle.std.specs.Options.{Cases};
+ghost use Rattle.std.specs.declared.result.Result.the-variants.{Err};
+ghost use Rattle.terms.specs.Refusals.{told, refused};
 ghost use Rattle.sheets.specs.Sheets.{inSheet, meaningOf};
 ghost use Rattle.sheets.specs.Held.{held, namesIn};
 use crate::contents::Sheet;
@@ -14,6 +16,13 @@ use terms::Axiom;
 use terms::Fault;
 use terms::Layer;
 use terms::Refusal;
+
+/// A number is past the end of a sheet.
+fn past_end() -> Fault
+    ensures { λ r. ⌜ told {V = ℕ} (Err r) ≡ refused 10 0 inSheet ⌝ }
+{
+    Refusal::PastEnd.at(0, Layer::Sheet)
+}
 
 /// The bytes of the name at a number, where there is one.
 fn name_at<const N: usize>(names: &Row<Name, N>, number: u8) -> Option<&[u8]>
@@ -73,21 +82,21 @@ pub impl Source for Sheet as SheetSource {
         if number < all.len() {
             Ok(all[number])
         } else {
-            Err(Refusal::PastEnd.at(0, Layer::Sheet))
+            Err(past_end())
         }
     }
 
     fn name_len(&self, class: u8) -> Result<usize, Fault> {
         match self.class_name(class) {
             Some(name) => Ok(name.len()),
-            None => Err(Refusal::PastEnd.at(0, Layer::Sheet)),
+            None => Err(past_end()),
         }
     }
 
     fn name_byte(&self, class: u8, index: usize) -> Result<u8, Fault> {
         match self.class_name(class) {
             Some(name) if index < name.len() => Ok(name[index]),
-            _ => Err(Refusal::PastEnd.at(0, Layer::Sheet)),
+            _ => Err(past_end()),
         }
     }
 }

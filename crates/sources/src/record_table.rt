@@ -1,9 +1,11 @@
 //! A table of axiom records that the caller holds.
 ghost use mathlib.Core.Path.{_≡_};
 ghost use mathlib.Core.List.{[]};
+ghost use Prim.Native.Nat.{ℕ};
 ghost use denote.Ref.{now};
 ghost use Rattle.std.specs.Results.{Cases};
-ghost use Rattle.terms.specs.Refusals.{Told, told};
+ghost use Rattle.std.specs.declared.result.Result.the-variants.{Err};
+ghost use Rattle.terms.specs.Refusals.{Told, told, refused};
 ghost use Rattle.sources.specs.Meanings.{Limits};
 ghost use Rattle.sources.specs.Tables.{inTable, tableMeaning, Opening};
 use crate::source::MOST_AXIOMS;
@@ -21,6 +23,13 @@ pub struct RecordTable<'a> {
     classes: u8,
     roles: u8,
     records: &'a [Axiom],
+}
+
+/// A number is past the end of a table.
+fn past_end() -> Fault
+    ensures { λ r. ⌜ told {V = ℕ} (Err r) ≡ refused 10 0 inTable ⌝ }
+{
+    Refusal::PastEnd.at(0, Layer::RecordTable)
 }
 
 /// Refuses too many classes, roles or records, and then the first record that is not well formed.
@@ -90,7 +99,7 @@ pub impl<'a> Source for RecordTable<'a> as RecordTableSource {
         if number < self.records.len() {
             Ok(self.records[number])
         } else {
-            Err(Refusal::PastEnd.at(0, Layer::RecordTable))
+            Err(past_end())
         }
     }
 
@@ -98,11 +107,11 @@ pub impl<'a> Source for RecordTable<'a> as RecordTableSource {
         if class < self.classes {
             Ok(0)
         } else {
-            Err(Refusal::PastEnd.at(0, Layer::RecordTable))
+            Err(past_end())
         }
     }
 
     fn name_byte(&self, _class: u8, _index: usize) -> Result<u8, Fault> {
-        Err(Refusal::PastEnd.at(0, Layer::RecordTable))
+        Err(past_end())
     }
 }

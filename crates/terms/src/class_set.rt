@@ -33,7 +33,8 @@ impl ClassSet {
     pub fn bits(self) -> u64
         ensures { λ r. ⌜ r ≡ self .bits ⌝ }
     {
-        self.bits
+        let ClassSet { bits } = self;
+        bits
     }
 
     /// The set of one class.
@@ -113,7 +114,7 @@ impl ClassSet {
     pub fn highest(self) -> Option<u8>
         ensures { λ r. ⌜ Cases r (self .bits ≡ 0) (λ a. Highest (self .bits) a × (a < 64)) ⌝ }
     {
-        if self.bits == 0 {
+        if self.is_empty() {
             None
         } else {
             Some(self.bits.ilog2() as u8)

@@ -1,0 +1,9 @@
+use Rattle.std.proofs.shelf.Results.{made-weaker}
+use Rattle.report.proofs.Appends.{and-then}
+use Rattle.report.proofs.sentences.write_restriction.Needs as need
+
+pub returns : need.returns
+returns c =
+    made-weaker (c .write-class-2 .result) _ _
+    (λ _ e. and-then (c .in-Continue-write-class .ensures tt) (and-then (c .in-Continue-write-bytes .ensures tt) (and-then (c .in-Continue-write-role .ensures tt) (and-then (c .in-Continue-write-bytes-2 .ensures tt) e))))
+    (c .write-class-2 .ensures)
