@@ -33,8 +33,8 @@ impl ClassSet {
     pub fn bits(self) -> u64
         ensures { λ r. ⌜ r ≡ self .bits ⌝ }
     {
-        let ClassSet { bits } = self;
-        bits
+        let ClassSet { bits: mask } = self;
+        mask
     }
 
     /// The set of one class.
