@@ -1,0 +1,5 @@
+use Rattle.closure.proofs.counted.Needs as need
+use Rattle.closure.proofs.Counting.{counted}
+
+pub returns : need.returns
+returns c = counted

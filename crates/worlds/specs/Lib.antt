@@ -1,0 +1,4 @@
+pub mod Worlds
+pub mod Models
+pub mod Entries
+pub mod Audits
