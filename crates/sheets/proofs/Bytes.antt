@@ -1,7 +1,7 @@
 -- Numbers in bytes, high byte first.
-use mathlib.Core.Path.{_≡_, refl, sym, ap, subst, _∙_}
-use mathlib.Core.List.{List, [], _∷_, _++_}
-use Prim.Native.Nat.{ℕ, zero, suc, _+_, _*_, _/_, _%_, _^_, _≤_, _<_}
+use mathlib.Core.Path.{_≡_, refl, ap, _∙_}
+use mathlib.Core.List.{List, [], _∷_}
+use Prim.Native.Nat.{ℕ, zero, suc, _+_, _*_, _/_, _%_, _^_, _<_}
 use native.Mathlib.Omega.{arith}
 use native.Mathlib.Nat.{pow-suc}
 use lib.ListN.{length, getD}
@@ -34,21 +34,19 @@ pow256 : (n : ℕ) → 0 < 256 ^ n
 pow256 zero = omega arith
 pow256 (suc n) = rw pow-suc (omega (arith, pow256 n))
 
-mutual-value : (n x : ℕ) → value (bytesOf n (x % 256 ^ n)) ≡ x % 256 ^ n → value (bytesOf (suc n) x) ≡ x
-mutual-value n x e =
+-- the first byte, where the rest is read back
+value-step : (n x : ℕ) → value (bytesOf n (x % 256 ^ n)) ≡ x % 256 ^ n → value (bytesOf (suc n) x) ≡ x
+value-step n x e =
     ap (λ k. x / 256 ^ n * 256 ^ k + value (bytesOf n (x % 256 ^ n))) (length-bytesOf n (x % 256 ^ n))
     ∙ ap (λ v. x / 256 ^ n * 256 ^ n + v) e ∙ div-add-mod' x (256 ^ n)
 
 value-under : (n x : ℕ) → x < 256 ^ n → value (bytesOf n x) ≡ x
 value-under zero x h = omega arith
-value-under (suc n) x h = mutual-value n x (value-under n (x % 256 ^ n) (mod-below x (256 ^ n) (pow256 n)))
+value-under (suc n) x h = value-step n x (value-under n (x % 256 ^ n) (mod-below x (256 ^ n) (pow256 n)))
 
 -- a number is read back from its bytes, where there is one or more
 pub value-bytesOf : (n x : ℕ) → value (bytesOf (suc n) x) ≡ x
-value-bytesOf n x = mutual-value n x (value-under n (x % 256 ^ n) (mod-below x (256 ^ n) (pow256 n)))
-
-pub same-bytesOf : (n x y : ℕ) → bytesOf (suc n) x ≡ bytesOf (suc n) y → x ≡ y
-same-bytesOf n x y e = sym (value-bytesOf n x) ∙ ap value e ∙ value-bytesOf n y
+value-bytesOf n x = value-step n x (value-under n (x % 256 ^ n) (mod-below x (256 ^ n) (pow256 n)))
 
 -- what `u64::from_be_bytes` computes
 pub eight : (bs : List ℕ) → length bs ≡ 8 → value bs ≡ getD bs 0 0 * 72057594037927936 + getD bs 1 0 * 281474976710656 + getD bs 2 0 * 1099511627776 + getD bs 3 0 * 4294967296 + getD bs 4 0 * 16777216 + getD bs 5 0 * 65536 + getD bs 6 0 * 256 + getD bs 7 0
