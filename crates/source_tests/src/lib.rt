@@ -4,17 +4,11 @@
 #[cfg(test)]
 mod answers;
 #[cfg(test)]
-mod breaches;
-#[cfg(test)]
 mod faults;
-#[cfg(test)]
-mod limits;
 #[cfg(test)]
 mod lookup;
 #[cfg(test)]
 mod opening;
-#[cfg(test)]
-mod order;
 #[cfg(test)]
 mod reopening;
 #[cfg(test)]

@@ -24,28 +24,12 @@ pub fn field(out: &mut Vec<u8>, tag: u8, body: &[u8]) -> Result<(), AllocError> 
     out.extend_from_slice(body)
 }
 
-/// Appends so many equal fields.
-pub fn repeat(out: &mut Vec<u8>, tag: u8, body: &[u8], times: usize) -> Result<(), AllocError> {
-    for _ in 0..times {
-        field(out, tag, body)?;
-    }
-    Ok(())
-}
-
 /// Declares so many classes, by tag 1, or roles, by tag 2, named by one byte each, from `!` up.
 pub fn declare(out: &mut Vec<u8>, tag: u8, count: u8) -> Result<(), AllocError> {
     for i in 0..count.min(94) {
         field(out, tag, &[33 + i])?;
     }
     Ok(())
-}
-
-/// One field alone, whose body is the byte so many times.
-pub fn lone(heap: Global, tag: u8, byte: u8, len: usize) -> Result<Vec<u8>, AllocError> {
-    let body = vec![in heap; byte; len]?;
-    let mut text = Vec::new(heap);
-    field(&mut text, tag, body.as_slice())?;
-    Ok(text)
 }
 
 /// The body of an inclusion.
