@@ -1,3 +1,4 @@
 pub mod Masks
 pub mod Words
 pub mod Checking
+pub mod Numbers

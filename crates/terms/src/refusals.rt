@@ -1,11 +1,12 @@
 //! Refusals: what is wrong, where, and which layer found it.
 ghost use mathlib.Core.Path.{_≡_};
+ghost use Rattle.std.specs.Orderings.{Decides};
 ghost use Rattle.std.specs.declared.option.Option.the-variants.{Some};
 ghost use Rattle.terms.specs.Refusals.{number, written};
 use std::fmt;
 
 /// Why a call refuses. Each kind has its number, by which helpdesks know it.
-#[derive(Clone, Copy, PartialEq, Eq, Debug)]
+#[derive(Clone, Copy, Eq, Debug)]
 pub enum Refusal {
     /// The sheet has more than 60,000 bytes.
     SheetTooLong = 1,
@@ -61,6 +62,15 @@ pub struct Fault {
     pub kind: Refusal,
     pub place: usize,
     pub layer: Layer,
+}
+
+/// Two kinds are the same when their numbers are.
+pub impl PartialEq<Refusal> for Refusal as RefusalPartialEq {
+    ghost equals = { λ x y r. Decides r (x ≡ y) };
+
+    fn eq(&self, other: &Refusal) -> bool {
+        self.number() == other.number()
+    }
 }
 
 impl Refusal {
