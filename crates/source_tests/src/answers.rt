@@ -68,17 +68,6 @@ fn name_bytes_past_the_end(rt: LibcRuntime) -> Result<(), Fail> {
 }
 
 #[test]
-fn nothing_opened() -> Result<(), Fail> {
-    let sheet = Sheet::new();
-    check_eq(counts(&sheet), (0, 0, 0))?;
-    check_eq(refusal(sheet.axiom_at(0)), past())?;
-    check_eq(refusal(sheet.name_len(0)), past())?;
-    check_eq(refusal(sheet.name_byte(0, 0)), past())?;
-    check(sheet.class_name(0).is_none())?;
-    check(sheet.role_name(0).is_none())
-}
-
-#[test]
 fn class_names_past_the_end(rt: LibcRuntime) -> Result<(), Fail> {
     let text = payroll(rt.alloc())?;
     let mut sheet = Sheet::new();

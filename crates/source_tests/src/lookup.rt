@@ -44,16 +44,6 @@ fn prefixes_and_longer_names(rt: LibcRuntime) -> Result<(), Fail> {
     check_eq(find_class(&sheet, &long), None)
 }
 
-/// A name that begins as an earlier one does is found at its own class.
-#[test]
-fn names_that_begin_alike() -> Result<(), Fail> {
-    let mut sheet = Sheet::new();
-    sheet.open(&[1, 0, 2, 0x41, 0x42, 1, 0, 1, 0x41, 1, 0, 2, 0x41, 0x43])?;
-    check_eq(find_class(&sheet, b"AB"), Some(0))?;
-    check_eq(find_class(&sheet, b"A"), Some(1))?;
-    check_eq(find_class(&sheet, b"AC"), Some(2))
-}
-
 /// Roles are no classes.
 #[test]
 fn roles_are_not_found() -> Result<(), Fail> {
@@ -61,27 +51,6 @@ fn roles_are_not_found() -> Result<(), Fail> {
     sheet.open(&[2, 0, 1, 0x70, 1, 0, 1, 0x41])?;
     check_eq(find_class(&sheet, b"p"), None)?;
     check_eq(find_class(&sheet, b"A"), Some(0))
-}
-
-#[test]
-fn the_last_of_64(rt: LibcRuntime) -> Result<(), Fail> {
-    let mut text = Vec::new(rt.alloc());
-    declare(&mut text, 1, 64)?;
-    let mut sheet = Sheet::new();
-    sheet.open(text.as_slice())?;
-    check_eq(find_class(&sheet, b"!"), Some(0))?;
-    check_eq(find_class(&sheet, b"`"), Some(63))?;
-    check_eq(find_class(&sheet, b"a"), None)
-}
-
-#[test]
-fn on_a_lent_sheet(rt: LibcRuntime) -> Result<(), Fail> {
-    let text = payroll(rt.alloc())?;
-    let mut sheet = Sheet::new();
-    sheet.open(text.as_slice())?;
-    let lent = &sheet;
-    check_eq(find_class::<LentSource>(&lent, b"wages"), Some(2))?;
-    check_eq(find_class::<LentSource>(&lent, b"wage"), None)
 }
 
 /// Every class of a table has the empty name, and the lowest is found.
@@ -94,11 +63,4 @@ fn on_a_table() -> Result<(), Fail> {
     check_eq(find_class(&table, b"A"), None)?;
     table.open(0, 1, &[])?;
     check_eq(find_class(&table, b""), None)
-}
-
-#[test]
-fn nothing_opened() -> Result<(), Fail> {
-    let sheet = Sheet::new();
-    check_eq(find_class(&sheet, b""), None)?;
-    check_eq(find_class(&sheet, b"A"), None)
 }

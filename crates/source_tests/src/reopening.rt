@@ -61,28 +61,6 @@ fn late_refusals_change_nothing(rt: LibcRuntime) -> Result<(), Fail> {
 }
 
 #[test]
-fn long_texts_change_nothing(rt: LibcRuntime) -> Result<(), Fail> {
-    let good = payroll_with_roles(rt.alloc())?;
-    let zeros = vec![in rt.alloc(); 0; 60001]?;
-    keeps(good.as_slice(), zeros.as_slice(), 1)?;
-    let mut bad = Vec::new(rt.alloc());
-    declare(&mut bad, 1, 65)?;
-    keeps(good.as_slice(), bad.as_slice(), 9)
-}
-
-#[test]
-fn the_names_kept(rt: LibcRuntime) -> Result<(), Fail> {
-    let text = payroll_with_roles(rt.alloc())?;
-    let mut sheet = Sheet::new();
-    sheet.open(text.as_slice())?;
-    check(sheet.open(&[1, 0, 1, 0x41, 9]).is_err())?;
-    check_eq(counts(&sheet), (4, 2, 4))?;
-    spells(&sheet, 0, b"payroll")?;
-    check_eq(sheet.role_name(1), Some(b"owns".as_slice()))?;
-    check_eq(sheet.axiom_at(0), Ok(inclusion(1, 6)))
-}
-
-#[test]
 fn opening_again_replaces(rt: LibcRuntime) -> Result<(), Fail> {
     let text = payroll_with_roles(rt.alloc())?;
     let mut sheet = Sheet::new();
@@ -105,23 +83,4 @@ fn the_empty_text_empties(rt: LibcRuntime) -> Result<(), Fail> {
     check_eq(counts(&sheet), (0, 0, 0))?;
     check(sheet.class_name(0).is_none())?;
     check(sheet.role_name(0).is_none())
-}
-
-/// The same text opens twice, since its names are no longer there.
-#[test]
-fn the_same_text_again(rt: LibcRuntime) -> Result<(), Fail> {
-    let text = payroll_with_roles(rt.alloc())?;
-    let mut sheet = Sheet::new();
-    sheet.open(text.as_slice())?;
-    check_eq(refusal(sheet.open(text.as_slice())), None)?;
-    check_eq(counts(&sheet), (4, 2, 4))
-}
-
-#[test]
-fn opens_after_a_refusal() -> Result<(), Fail> {
-    let mut sheet = Sheet::new();
-    check(sheet.open(&[1, 0, 1, 0x41, 9]).is_err())?;
-    sheet.open(&[1, 0, 1, 0x42])?;
-    check_eq(counts(&sheet), (1, 0, 0))?;
-    spells(&sheet, 0, b"B")
 }

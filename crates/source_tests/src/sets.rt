@@ -33,30 +33,6 @@ fn the_empty_set() -> Result<(), Fail> {
     Ok(())
 }
 
-#[test]
-fn singles() -> Result<(), Fail> {
-    check_eq(ClassSet::single(0).bits(), 1)?;
-    check_eq(ClassSet::single(7).bits(), 0x80)?;
-    check_eq(ClassSet::single(63).bits(), 0x8000_0000_0000_0000)?;
-    for class in 0..64 {
-        let one = ClassSet::single(class);
-        check_eq(one.len(), 1)?;
-        check_eq(one.highest(), Some(class))?;
-        check(!one.is_empty())?;
-    }
-    Ok(())
-}
-
-#[test]
-fn single_contains_itself_alone() -> Result<(), Fail> {
-    for class in 0..64 {
-        for other in 0..=255 {
-            check_eq(ClassSet::single(class).contains(other), class == other)?;
-        }
-    }
-    Ok(())
-}
-
 /// No set has a class from 64 up, not even the full one.
 #[test]
 fn the_full_set() -> Result<(), Fail> {
@@ -68,69 +44,6 @@ fn the_full_set() -> Result<(), Fail> {
     check(!full().contains(64))?;
     check(!full().contains(127))?;
     check(!full().contains(255))
-}
-
-#[test]
-fn with_a_class() -> Result<(), Fail> {
-    let ends = ClassSet::empty().with(0).with(63);
-    check_eq(ends.bits(), 0x8000_0000_0000_0001)?;
-    check_eq(ends.with(63).bits(), ends.bits())?;
-    check_eq(ends.with(5).bits(), 0x8000_0000_0000_0021)?;
-    check_eq(full().with(63).bits(), u64::MAX)
-}
-
-#[test]
-fn without_a_class() -> Result<(), Fail> {
-    check_eq(full().without(0).bits(), 0xffff_ffff_ffff_fffe)?;
-    check_eq(full().without(63).bits(), 0x7fff_ffff_ffff_ffff)?;
-    let two = ClassSet::from_bits(0b101);
-    check_eq(two.without(2).bits(), 0b001)?;
-    check_eq(two.without(1).bits(), 0b101)?;
-    check(two.without(0).without(2).is_empty())
-}
-
-#[test]
-fn unions() -> Result<(), Fail> {
-    let low = ClassSet::from_bits(0b0011);
-    let high = ClassSet::from_bits(0b0110);
-    check_eq(low.union(high).bits(), 0b0111)?;
-    check_eq(low.union(ClassSet::empty()).bits(), 0b0011)?;
-    check_eq(ClassSet::empty().union(low).bits(), 0b0011)?;
-    check_eq(ClassSet::single(0).union(ClassSet::single(63)).len(), 2)?;
-    check_eq(low.union(full()).bits(), u64::MAX)
-}
-
-#[test]
-fn meeting() -> Result<(), Fail> {
-    let low = ClassSet::from_bits(0b0011);
-    check(low.meets(ClassSet::from_bits(0b0110)))?;
-    check(!low.meets(ClassSet::from_bits(0b1100)))?;
-    check(!low.meets(ClassSet::empty()))?;
-    check(!ClassSet::empty().meets(ClassSet::empty()))?;
-    check(full().meets(ClassSet::single(63)))?;
-    check(!full().without(63).meets(ClassSet::single(63)))?;
-    check(!full().without(0).meets(ClassSet::single(0)))
-}
-
-#[test]
-fn subsets() -> Result<(), Fail> {
-    let low = ClassSet::from_bits(0b0011);
-    check(low.is_subset(ClassSet::from_bits(0b0111)))?;
-    check(low.is_subset(low))?;
-    check(!low.is_subset(ClassSet::from_bits(0b0110)))?;
-    check(!low.is_subset(ClassSet::single(0)))?;
-    check(ClassSet::empty().is_subset(ClassSet::empty()))?;
-    check(!low.is_subset(ClassSet::empty()))?;
-    check(full().is_subset(full()))?;
-    check(!full().is_subset(full().without(63)))
-}
-
-#[test]
-fn emptiness() -> Result<(), Fail> {
-    check(ClassSet::from_bits(0).is_empty())?;
-    check(!ClassSet::single(0).is_empty())?;
-    check(!ClassSet::single(63).is_empty())?;
-    check(!full().is_empty())
 }
 
 #[test]
@@ -173,20 +86,4 @@ fn going_through_none_and_all(rt: LibcRuntime) -> Result<(), Fail> {
         check_eq(usize::from(*class), i)?;
     }
     Ok(())
-}
-
-#[test]
-fn going_through_one(rt: LibcRuntime) -> Result<(), Fail> {
-    for class in 0..64 {
-        let all = rising(rt.alloc(), ClassSet::single(class))?;
-        check_eq(all.as_slice(), [class].as_slice())?;
-    }
-    Ok(())
-}
-
-#[test]
-fn equal_sets() -> Result<(), Fail> {
-    check_eq(ClassSet::empty().with(1).with(4), ClassSet::from_bits(18))?;
-    check_eq(ClassSet::single(9).without(9), ClassSet::empty())?;
-    check_ne(ClassSet::single(0), ClassSet::single(63))
 }
