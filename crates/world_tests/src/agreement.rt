@@ -161,12 +161,12 @@ fn every_small_axiom(rt: LibcRuntime) -> Result<(), Fail> {
     let heap = rt.alloc();
     let axioms = all_axioms(heap)?;
     check_eq(axioms.len(), 122)?;
-    let mut seed = 1u32;
+    let mut chance = 1u32;
     for _ in 0..100 {
-        seed = seed.wrapping_mul(1664525).wrapping_add(1013904223);
-        let bits = u64::from(seed / 32);
+        chance = chance.wrapping_mul(1664525).wrapping_add(1013904223);
+        let bits = u64::from(chance / 32);
         let classes = [bits & 7, bits / 8 & 7, bits / 64 & 7];
-        let links = links_of(heap, seed / 16384)?;
+        let links = links_of(heap, chance / 16384)?;
         let words = rows(heap, 2, &classes, links.as_slice())?;
         kinds_agree(
             axioms.as_slice(),

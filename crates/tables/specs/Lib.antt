@@ -1,0 +1,4 @@
+pub mod Entering
+pub mod Tables
+pub mod Adding
+pub mod Filling
