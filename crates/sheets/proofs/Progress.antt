@@ -64,13 +64,6 @@ module _ {text : List ℕ} {c : Contents} {rest : List ℕ} {place : ℕ} (h : S
         holds = m ∙ ap (λ x. more x e) (h .holds) ∙ sym (after-more nothing (h .good) e);
       }
 
-  -- the field is cut short
-  pub stop-short : (p : ℕ) (y : Layer) → p ≡ place → y ≡ inSheet → 0 < length rest → Short rest → Gives text (refused 2 p y)
-  stop-short p y e l some s = (
-    l,
-    inr (record { good = h .good; rest = rest; short = h .short; whole = h .whole; formed = h .formed; there = e ∙ h .there; some = some; rejects = inl (refl, s) }),
-  )
-
   -- the field fails a check
   stop : (n p : ℕ) (y : Layer) (t : ℕ) (b rest′ : List ℕ) → p ≡ place → y ≡ inSheet → rest ≡ fieldOf t b ++ rest′ → Fails c t b n → Gives text (refused n p y)
   stop n p y t b rest′ e l w k = (

@@ -2,7 +2,7 @@
 ghost use mathlib.Core.Path.{_≡_};
 ghost use mathlib.Core.List.{List};
 ghost use mathlib.Core.Logic.{_⊎_};
-ghost use Prim.Native.Nat.{_≤_, _<_};
+ghost use Prim.Native.Nat.{ℕ, _≤_, _<_};
 ghost use lib.ListN.{length};
 ghost use Rattle.std.specs.Results.{Cases};
 ghost use Rattle.closure.specs.Closures.{clause, toward};
@@ -67,7 +67,9 @@ pub fn enter_clause(
     requires { ⌜ counts .clauses ≤ length (now clauses) ⌝ }
     ensures enters { λ r. ⌜ ((contexts : List ContextRecord) → Good (tables contexts (now (clauses .entry)) counts) → Cites (counts .contexts) «record»
         → Enters (λ m. m ≡ a-clause (clauseOf contexts «record»)) (tables contexts (now (clauses .entry)) counts) (tables contexts (now (clauses .exit))) r) ⌝ }
-    ensures kept { λ r. ⌜ Cases r (λ n. n .contexts ≡ counts .contexts) (λ _. now (clauses .exit) ≡ now (clauses .entry)) ⌝ }
+    ensures entered { λ r. ⌜ Cases r
+        (λ n. ((slot : ℕ) × Entered (now (clauses .entry)) (counts .clauses) «record» (now (clauses .exit)) slot (n .clauses)) × (n .contexts ≡ counts .contexts))
+        (λ _. Refused (now (clauses .entry)) (counts .clauses) «record» (now (clauses .exit))) ⌝ }
 {
     match enter(clauses, counts.clauses, record) {
         Ok(place) => Ok(Counts {

@@ -21,10 +21,6 @@ first-one (check k P rest) m n (inl f) (inr g) = absurd (f .1 (g .0))
 first-one (check k P rest) m n (inr f) (inl g) = absurd (g .1 (f .0))
 first-one (check k P rest) m n (inr f) (inr g) = first-one rest m n (f .1) (g .1)
 
--- two values that are told alike are equal
-pub done-same : {V : Type 0} {x y : V} → done x ≡ done y → x ≡ y
-done-same e = cc
-
 -- ---- the checks of an axiom, with others behind them
 
 pub axiom-first : (c r : ℕ) (a : Axiom) (rest : Checks) (n : ℕ) → FirstFailing (axiomChecks c r a end) n → FirstFailing (axiomChecks c r a rest) n

@@ -89,9 +89,6 @@ module _ (xs : List Link) where
 
   -- ---- building the chains
 
-  pub last-none : (last : List ℕ) → ((j : ℕ) → getD last j 0 ≡ 0) → Last xs last 0
-  last-none last z d l = z d
-
   pub last-more : (last : List ℕ) (i from v : ℕ) → length last ≡ 4096 → from < 4096 → fromOf i ≡ from → v ≡ suc i → Last xs last i → Last xs (set last from v) (suc i)
   last-more last i from v n l e s h d k = elim (cases-eq d from) [
     | inl q ↦ ap (λ x. getD (set last from v) x 0) q ∙ getD-set-same last from v 0 (omega arith) ∙ s ∙ sym (cond-true _ (suc i) (latest xs d i) (eq-eqb _ _ (e ∙ sym q)))

@@ -2,7 +2,7 @@
 ghost use mathlib.Core.Path.{_≡_};
 ghost use Prim.Native.Nat.{ℕ, _≤_, _<_};
 ghost use lib.ListN.{length, getD};
-ghost use Rattle.worlds.specs.Entries.{Chained, Last, Fits, noLink};
+ghost use Rattle.worlds.specs.Entries.{Chained, Last, noLink};
 use crate::link::Link;
 
 /// Numbers that begin at 0.

@@ -1,8 +1,7 @@
 //! The interface of a world.
 ghost use mathlib.Core.Path.{_≡_};
 ghost use mathlib.Core.Bool.{true};
-ghost use mathlib.Core.Logic.{_⊎_};
-ghost use Prim.Native.Nat.{ℕ, _<_, _≤_};
+ghost use Prim.Native.Nat.{ℕ, _<_};
 ghost use Rattle.std.specs.Orderings.{Decides};
 ghost use Rattle.terms.specs.Sets.{has};
 ghost use Rattle.terms.specs.Refusals.{Answers, check, end, told};
