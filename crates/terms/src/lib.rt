@@ -2,6 +2,8 @@
 //!
 //! Sets promise by membership, axioms say whether they keep to the classes and roles that there are, and a refusal is told by its
 //! number, its place and its layer. The crate rests on `std` alone.
+#![tactic(auto)]
+
 pub mod axioms;
 pub mod class_set;
 pub mod refusals;

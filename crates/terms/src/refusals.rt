@@ -1,9 +1,9 @@
 //! Refusals: what is wrong, where, and which layer found it.
-ghost use Rattle.std.specs.Prelude.{◌≡◌, Some, Decides};
-ghost use Rattle.terms.specs.Refusals.{number, written};
+ghost use Rattle.std.specs.Prelude.{◌≡◌, Some, Decides, ◌==◌};
+ghost use Rattle.std.specs.Ordering.{on};
 ghost use Rattle.std.specs.Cmp.Rules.{comparing};
 ghost use Rattle.std.proofs.Common.{rules};
-ghost use Rattle.std.specs.Cmp as Keys;
+ghost use Rattle.terms.specs.Refusals.{number, written};
 
 use std::fmt;
 
@@ -68,11 +68,14 @@ pub struct Fault {
 
 /// Two kinds are the same when their numbers are.
 impl PartialEq for Refusal {
-    ghost equals = { λ x y r. Decides r (x ≡ y) };
+    ghost eq = { on number ◌==◌ };
 
-    ghost laws = { Keys.partial_equiv_from_equiv (Prim.search (comparing, rules)) };
+    ghost laws = { Prim.search (comparing, rules) };
 
-    fn eq(&self, other: &Refusal) -> bool {
+    fn eq(&self, other: &Refusal) -> bool
+        ensures same { result ≡ (on number ◌==◌) self.now other.now }
+        ensures decides { Decides result (self.now ≡ other.now) }
+    {
         self.number() == other.number()
     }
 }

@@ -8,7 +8,7 @@ use Rattle.std.proofs.iter.Next.{firm}
 pub returns : goal.returns
 returns c =
     let s = c.args.self.now.rest.bits in
-    let filled : s ≡ 0 → ⊥ = not_from_Decides _ c.is-empty.ensures c.if-is-empty.false in
+    let filled : s ≡ 0 → ⊥ = not_from_Decides _ c.is_empty.ensures c.if-is_empty.false in
     let some : 0 < s = omega arith in
     let low = trailing_lowest 64 s some (omega arith) in
     record {
