@@ -4,6 +4,7 @@
 //! There is a chain of levels, each with a successor in the next; a row of marks, each level in the first or in one of the first two, each mark
 //! in the next, and each two neighbours in the one behind them. What has a successor in the last mark is in another class, and all successors of
 //! that class are in one more.
+#![tactic(auto)]
 
 use reasoner::{Answer, ask};
 use sources::RecordTable;

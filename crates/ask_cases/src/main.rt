@@ -4,6 +4,8 @@
 //! table and of the clause table, the words of the model table or `-` for a call without one, and the axioms, each the number of its form
 //! and its parts with commas between. A naive closure says what the call should tell and which records the tables should hold; the
 //! line ends with `ok`, or with what differs.
+#![tactic(auto)]
+
 mod cases;
 mod comparison;
 mod naive;

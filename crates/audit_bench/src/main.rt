@@ -2,6 +2,8 @@
 //!
 //! Every entry is in all classes but 63, and has four links, two by role 0 and two by role 1 to the same entries. Each axiom is
 //! obeyed, so that every one of them is decided at every entry, mostly by a walk through all its links.
+#![tactic(auto)]
+
 use sources::RecordTable;
 use std::io;
 use terms::{Axiom, ClassSet, Fault};

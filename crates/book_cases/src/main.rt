@@ -3,6 +3,8 @@
 //! A line is the number of records in a record table of 5 classes, then the calls on a book over it, and perhaps `|` and the calls on a book over that book.
 //! An axiom is written as the number whose bits are its classes on the left. `add:7` adds 7, `amend:2:7` amends own axiom 2 to 7, `strike:2` strikes own axiom 2,
 //! `axiom:2` asks for the axiom at number 2, `length:2` for the length of class 2's name, and `byte:2` for the first byte of it.
+#![tactic(auto)]
+
 ghost use Rattle.sources.specs.Meanings.{Limits};
 ghost use Rattle.book.specs.Owned.{whole_of};
 

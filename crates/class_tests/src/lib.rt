@@ -1,5 +1,7 @@
 //! Classification tried on examples.
 //!
 //! The crate has tests alone.
+#![tactic(auto)]
+
 #[cfg(test)]
 mod rows;

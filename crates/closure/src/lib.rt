@@ -3,6 +3,8 @@
 //! `specs/` defines the closure of a goal context by its rules. Each function here does nothing; its contract is a theorem:
 //! the closure is the least that keeps the rules, it is sound and complete, its verdict is right for every order of the classes,
 //! its members can be counted, and the worked examples come out. The crate rests on `terms` and `worlds`; docs/closure.md tells the proofs.
+#![tactic(auto)]
+
 ghost use Rattle.closure.specs.Rules.{KeepsRules, Least};
 ghost use Rattle.closure.specs.Soundness.{SoundClauses, Sound};
 ghost use Rattle.closure.specs.Canonical.{CanonicalObeys, CanonicalExists, Complete};

@@ -2,6 +2,8 @@
 //!
 //! `class NAME` declares the next class, `under SIZE LOWER UPPER` makes the line of two classes, and `refusal SIZE NUMBER PLACE` that of
 //! a refusal, each in a buffer of SIZE bytes that are dots at first.
+#![tactic(auto)]
+
 use sheets::Sheet;
 use std::alloc::AllocError;
 use std::io;

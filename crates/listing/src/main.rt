@@ -1,4 +1,6 @@
 //! Reads an office's sheet from standard input, and prints which classes are under which others, or why that is refused.
+#![tactic(auto)]
+
 ghost use Rattle.std.specs.Prelude.{◌≤◌, length};
 ghost use Rattle.sources.specs.Meanings.{Limits};
 ghost use Rattle.sheets.specs.Sheets.{meaning_of};

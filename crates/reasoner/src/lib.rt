@@ -2,6 +2,8 @@
 //!
 //! `ask` saturates two lent tables with the closure of the goal and answers none or some, with the closure's counts; `ask_model` also shows a
 //! world in a lent model table. `specs/Asks.antt` has the whole promise. The crate rests on `saturation` and `models`; docs/asks.md tells it in plain words.
+#![tactic(auto)]
+
 ghost use Rattle.reasoner.specs.Asks.{OneAnswer};
 
 pub mod answer;

@@ -1,4 +1,6 @@
 //! Opens the sheet on standard input, and prints what it says or why it is refused.
+#![tactic(auto)]
+
 ghost use Rattle.sources.specs.Meanings.{Limits};
 ghost use Rattle.sheets.specs.Sheets.{meaning_of};
 ghost use Rattle.sheets.specs.Held.{held};

@@ -1,4 +1,6 @@
 //! Runs of calls on a book.
+#![tactic(auto)]
+
 pub mod callers;
 pub mod calls;
 pub mod drivers;

@@ -2,6 +2,8 @@
 //!
 //! A line is pairs of a count and bytes in hexadecimal: the sheet is the bytes of each pair, so many times over.
 //! The answer is the numbers of classes, roles and axioms, or the refusal.
+#![tactic(auto)]
+
 use sheets::Sheet;
 use sources::Source;
 use std::alloc::AllocError;

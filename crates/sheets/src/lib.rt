@@ -2,6 +2,8 @@
 //!
 //! Opening tells exactly what the bytes are the writing of, or the first check that fails, and a refusal changes nothing.
 //! The crate rests on `terms` and `sources`.
+#![tactic(auto)]
+
 mod contents;
 mod field;
 mod item;

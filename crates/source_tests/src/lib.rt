@@ -1,6 +1,8 @@
 //! The layers of sources tried on examples: sets of classes, refusals, record tables, sheets, and finding a class by its name.
 //!
 //! The crate has tests alone; `writing` has what they share.
+#![tactic(auto)]
+
 #[cfg(test)]
 mod answers;
 #[cfg(test)]

@@ -3,6 +3,8 @@
 //! Records take their slots in the order in which they are entered, each once, and a table that has no slot left says so. `specs/` says what
 //! the used slots mean in the closure's own words; `proofs/` has the laws of adding to the tables and of counting what is in them.
 //! The crate rests on `terms` and `closure`; docs/tables.md tells it in plain words.
+#![tactic(auto)]
+
 ghost use Rattle.tables.specs.Filling.{EachOnce, CountsRight, FullRight, FitsRight};
 
 pub mod entering;

@@ -1,6 +1,8 @@
 //! The worlds tried on examples: model tables, entry tables, and the audit of both.
 //!
 //! The crate has tests alone; `showing` has what they share.
+#![tactic(auto)]
+
 #[cfg(test)]
 mod agreement;
 #[cfg(test)]

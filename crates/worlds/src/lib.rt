@@ -2,6 +2,8 @@
 //!
 //! A world is read from a model table or from a store's table of entries; an audit says whether it obeys every axiom of a source,
 //! or names the first that is broken and the lowest element that breaks it. The crate rests on `terms` and `sources`.
+#![tactic(auto)]
+
 pub mod audit;
 mod chains;
 pub mod entry_table;

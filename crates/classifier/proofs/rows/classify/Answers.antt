@@ -11,14 +11,14 @@ returns-in-err-row g c =
     let p = err_from_is_err_and c.from-residual.result c.from-residual.ensures.1 in
     let m = g.S.Source.meaning c.args.source.now in
     let s = lent c.args.contexts.now c.args.clauses.now c.args.rows.now in
-    let u = lent c.row-of.new.contexts c.row-of.new.clauses c.loop-lower.rows in
+    let u = lent c.row_of.new.contexts c.row_of.new.clauses c.loop-lower.rows in
     let f = c.in-err-row.field-0.0 in
     let q = row_sized m c.loop-lower.lower _ _ (refused _ _ _) c.loop-lower.auto.contexts c.loop-lower.auto.clauses c.in-err-row.ensures in
     let h : Classified {V = Unit {0}} m s u (refused (number f.kind) f.place f.layer) = inr (
-      ((omega (arith, c.class-count-classes.ensures), omega arith, omega arith), tt),
+      ((omega (arith, c.class_count-classes.ensures), omega arith, omega arith), tt),
       q.0,
       q.1,
-      rows_cut c.loop-lower.invariant _ _ c.requires.few_classes (omega (arith, c.loop-lower-test.true, c.class-count-classes.ensures)) _ q.2,
+      rows_cut c.loop-lower.invariant _ _ c.requires.few_classes (omega (arith, c.loop-lower-test.true, c.class_count-classes.ensures)) _ q.2,
     ) in
     rw (p.1, p.2) (record { gives = h; only = λ v t k. one_outcome m c.requires.few_classes s (λ _ _. refl) v u t (refused (number f.kind) f.place f.layer) k h })
 
@@ -33,5 +33,5 @@ returns g c =
     let m = g.S.Source.meaning c.args.source.now in
     let s = lent c.args.contexts.now c.args.clauses.now c.args.rows.now in
     let u = lent c.loop-lower.contexts c.loop-lower.clauses c.loop-lower.rows in
-    let h : Classified {V = Unit {0}} m s u (done tt) = (((omega (arith, c.class-count-classes.ensures), omega arith, omega arith), tt), rows_all (omega (arith, c.class-count-classes.ensures)) c.loop-lower.invariant) in
+    let h : Classified {V = Unit {0}} m s u (done tt) = (((omega (arith, c.class_count-classes.ensures), omega arith, omega arith), tt), rows_all (omega (arith, c.class_count-classes.ensures)) c.loop-lower.invariant) in
     record { gives = h; only = λ v t k. one_outcome m c.requires.few_classes s (λ _ _. refl) v u t (done tt) k h }

@@ -15,7 +15,7 @@ returns-in-err-under g c =
     let p = err_from_is_err_and c.from-residual.result c.from-residual.ensures.1 in
     let m = g.S.Source.meaning c.args.source.now in
     let q = asked_sized m.axioms c.args.lower c.loop-upper.upper _ _ (refused _ _ _) c.loop-upper.auto.contexts c.loop-upper.auto.clauses c.in-err-under.ensures in
-    rw (p.1, p.2) (row_cut c.loop-upper.invariant m.classes (omega (arith, c.loop-upper-test.true, c.class-count-upper-end.ensures)) _ _ _ q)
+    rw (p.1, p.2) (row_cut c.loop-upper.invariant m.classes (omega (arith, c.loop-upper-test.true, c.class_count-upper-end.ensures)) _ _ _ q)
 
 pub loop-upper-preserved : goal.loop-upper-preserved
 loop-upper-preserved g c =

@@ -5,5 +5,5 @@ use Rattle.lines.proofs.pieces.put_bytes.Goals as goal
 pub returns : goal.returns
 returns c = record {
   ends = refl;
-  wrote = wrote_part c.args.buffer.now c.args.bytes.now c.copy-from-slice.new.self c.args.place _ c.copy-from-slice.ensures.after (omega arith);
+  wrote = wrote_part c.args.buffer.now c.args.bytes.now c.copy_from_slice.new.self c.args.place _ c.copy_from_slice.ensures.after (omega arith);
 }

@@ -18,10 +18,10 @@ loop-i-preserved g c =
     let place = c.args.place in
     let i = c.loop-i.i in
     let within : i < length name = omega arith in
-    let told = c.in-Ok-name-byte.ensures.there c.requires.there within in
-    let byte : c.in-Ok-name-byte.byte ≡ get_or name i 0 = cc in (
+    let told = c.in-Ok-name_byte.ensures.there c.requires.there within in
+    let byte : c.in-Ok-name_byte.byte ≡ get_or name i 0 = cc in (
       c.loop-i.invariant.0,
-      ap (λ u. set u (place + i) c.in-Ok-name-byte.byte) c.loop-i.invariant.1
+      ap (λ u. set u (place + i) c.in-Ok-name_byte.byte) c.loop-i.invariant.1
           ∙ ap (set _ (place + i)) byte
           ∙ paste_more buffer place name i 0 (omega arith) within,
     )

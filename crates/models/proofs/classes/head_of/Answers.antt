@@ -8,7 +8,7 @@ returns c =
     let r = c.highest.result in
     record {
       head = λ a. (
-        λ e. record { its = c.if-clause-slot.false; is_plain = none_part c.args.clause.now.part (sym c.if-is-some.ensures); head = (found_highest D r c.highest.ensures a e).0 },
+        λ e. record { its = c.if-clause-slot.false; is_plain = none_part c.args.clause.now.part (sym c.if-is_some.ensures); head = (found_highest D r c.highest.ensures a e).0 },
         λ m. highest_found D r c.highest.ensures a m.head,
       );
       low = λ a e. (found_highest D r c.highest.ensures a e).1;

@@ -8,9 +8,9 @@ pub with-all-requires : goal.with-all-requires
 with-all-requires c = c.in-Some.ensures.low c.in-Some.head refl
 
 pub loop-clause-preserved : goal.loop-clause-preserved
-loop-clause-preserved c = elim c.match-head-of.branch [
-  | in-Some w ↦ headed_yes c.args.clauses.now c.args.slot c.loop-clause.clause-index c.loop-clause.all.bits w.in-Some.head c.match-head-of.all.bits
+loop-clause-preserved c = elim c.match-head_of.branch [
+  | in-Some w ↦ headed_yes c.args.clauses.now c.args.slot c.loop-clause.clause-index c.loop-clause.all.bits w.in-Some.head c.match-head_of.all.bits
       (ap (λ (s : ClassSet). s.bits) w.all-is ∙ w.with-all.ensures) ((w.in-Some.ensures.head w.in-Some.head).0 refl) c.loop-clause.invariant
-  | in-default w ↦ headed_no c.args.clauses.now c.args.slot c.loop-clause.clause-index c.loop-clause.all.bits c.match-head-of.all.bits
-      (ap (λ (s : ClassSet). s.bits) w.all-is) (λ a m. w.in-default.not-Some a ((c.head-of.ensures.head a).1 m)) c.loop-clause.invariant
+  | in-default w ↦ headed_no c.args.clauses.now c.args.slot c.loop-clause.clause-index c.loop-clause.all.bits c.match-head_of.all.bits
+      (ap (λ (s : ClassSet). s.bits) w.all-is) (λ a m. w.in-default.not-Some a ((c.head_of.ensures.head a).1 m)) c.loop-clause.invariant
 ]

@@ -14,9 +14,9 @@ loop-from-preserved c =
     let links = c.args.links.now in
     let k = c.loop-from.from in
     elim c.if-reaches.branch [
-      | then-reaches w ↦ gathered_yes reach links c.args.role c.args.block k c.loop-from.word.bits w.from-bits.result.bits c.if-reaches.word.bits
+      | then-reaches w ↦ gathered_yes reach links c.args.role c.args.block k c.loop-from.word.bits w.from_bits.result.bits c.if-reaches.word.bits
           (ap (λ (s : ClassSet). s.bits) w.word-is ∙ w.union-word.ensures)
-          (w.from-bits.ensures ∙ ap (λ i. get_or links (4 * i + c.args.block) 0) w.from.ensures)
+          (w.from_bits.ensures ∙ ap (λ i. get_or links (4 * i + c.args.block) 0) w.from.ensures)
           (sym c.reaches.ensures ∙ w.if-reaches.true) c.loop-from.invariant
       | else-reaches w ↦ gathered_no reach links c.args.role c.args.block k c.loop-from.word.bits c.if-reaches.word.bits
           (ap (λ (s : ClassSet). s.bits) w.word-is) (λ m. both_ways _ w.if-reaches.false (c.reaches.ensures ∙ m)) c.loop-from.invariant

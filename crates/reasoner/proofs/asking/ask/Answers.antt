@@ -15,7 +15,7 @@ returns-in-err-admit g c =
     let l = length c.args.clauses.now in
     let f = c.in-err-admit.ensures in
     rw (p.1, p.2) (record {
-      gives = (first_more m c.args.held c.args.denied k l (k * 0 ≤ 0) NoTable c.class-count.ensures (λ _. omega arith) _ f.0, f.1, f.2);
+      gives = (first_more m c.args.held c.args.denied k l (k * 0 ≤ 0) NoTable c.class_count.ensures (λ _. omega arith) _ f.0, f.1, f.2);
       after = inr (not_full _ c.args.held c.args.denied k l (k * 0 ≤ 0) _ f.0, refl, refl);
     })
 
@@ -27,7 +27,7 @@ conclude-requires g c =
       loaded = omega (arith, c.load-count.ensures.count, c.requires.few_axioms, c.load-count.auto.axioms);
       formed = subst (All (WellFormed 64 16)) (sym c.load-count.ensures.loaded) (formed_up c.requires.few_classes c.requires.few_roles m.axioms c.requires.formed);
       few = p.1.0.0;
-      low = (below_up c.args.held.bits (omega (arith, c.requires.few_classes, c.class-count.ensures)) p.0.0, below_up c.args.denied.bits (omega (arith, c.requires.few_classes, c.class-count.ensures)) p.0.1);
+      low = (below_up c.args.held.bits (omega (arith, c.requires.few_classes, c.class_count.ensures)) p.0.0, below_up c.args.denied.bits (omega (arith, c.requires.few_classes, c.class_count.ensures)) p.0.1);
     }
 
 pub returns : goal.returns
@@ -38,6 +38,6 @@ returns g c =
     let p = c.in-ok-admit.ensures.0 in
     let e = c.load-count.ensures.loaded in
     record {
-      gives = then_answers m c.args.held c.args.denied k l (k * 0 ≤ 0) NoTable c.class-count.ensures (λ _. tt) (λ a. Right m.axioms c.args.held c.args.denied a × Unshown a) (told c.conclude.result) p (answers_of c.args.held c.args.denied e k l (told c.conclude.result) c.conclude.ensures.gives);
+      gives = then_answers m c.args.held c.args.denied k l (k * 0 ≤ 0) NoTable c.class_count.ensures (λ _. tt) (λ a. Right m.axioms c.args.held c.args.denied a × Unshown a) (told c.conclude.result) p (answers_of c.args.held c.args.denied e k l (told c.conclude.result) c.conclude.ensures.gives);
       after = tables_of c.args.held c.args.denied e _ _ _ _ (told c.conclude.result) c.conclude.ensures.after;
     }

@@ -11,8 +11,8 @@ of-reach-requires c = formed_included 64 c.args.roles 16 c.requires.room.0 _ c.r
 pub fill-requires : goal.fill-requires
 fill-requires c = record { formed = formed_up (omega arith) c.requires.room.0 _ c.requires.formed; shows = c.of-reach.ensures; few = c.requires.few; low = c.requires.low }
 
-pub write-model-elements-requires : goal.write-model-elements-requires
-write-model-elements-requires c =
+pub write_model-elements-requires : goal.write_model-elements-requires
+write_model-elements-requires c =
     let f = some_filled c.in-Something.is _ _ _ _ c.in-Ok.ensures.after in
     let r = some_right c.in-Something.is c.in-Ok.ensures.gives.1.0 None in
     record {
@@ -32,5 +32,5 @@ returns-in-Something c =
     record {
       gives = (g.0, (some_right c.in-Something.is g.1.0 _, tt));
       after = f;
-      shows = λ m r a formed held denied. shown_of m r a (shown f m.classes c.of-reach.ensures (formed_of m r a formed) c.write-model-elements.ensures held denied);
+      shows = λ m r a formed held denied. shown_of m r a (shown f m.classes c.of-reach.ensures (formed_of m r a formed) c.write_model-elements.ensures held denied);
     }

@@ -8,17 +8,17 @@ use Rattle.reasoner.specs.Asks.{in_ask, goal_of, FitsInto}
 use Rattle.reasoner.proofs.Closing.{overflows, begun, fits, filled, empty_refuted, refuted_empty, right_nothing, right_something}
 use Rattle.reasoner.proofs.asking.fill.Goals as goal
 
-pub returns-then-is-refuted : goal.returns-then-is-refuted
-returns-then-is-refuted c =
+pub returns-then-is_refuted : goal.returns-then-is_refuted
+returns-then-is_refuted c =
     let p = c.in-Ok.ensures.closure in
     let first = c.in-Ok.ensures.first in
-    record { gives = ((fits p, tt), (right_nothing p (empty_refuted p first.0 first.1 (c.if-is-refuted.ensures.0 refl)), tt)); after = filled p first.0 first.1 }
+    record { gives = ((fits p, tt), (right_nothing p (empty_refuted p first.0 first.1 (c.if-is_refuted.ensures.0 refl)), tt)); after = filled p first.0 first.1 }
 
-pub returns-else-is-refuted : goal.returns-else-is-refuted
-returns-else-is-refuted c =
+pub returns-else-is_refuted : goal.returns-else-is_refuted
+returns-else-is_refuted c =
     let p = c.in-Ok.ensures.closure in
     let first = c.in-Ok.ensures.first in
-    record { gives = ((fits p, tt), (right_something p (λ h. not_from_Decides _ c.is-refuted.ensures c.if-is-refuted.false (refuted_empty p first.0 first.1 h)) None, tt)); after = filled p first.0 first.1 }
+    record { gives = ((fits p, tt), (right_something p (λ h. not_from_Decides _ c.is_refuted.ensures c.if-is_refuted.false (refuted_empty p first.0 first.1 h)) None, tt)); after = filled p first.0 first.1 }
 
 pub returns-in-Err : goal.returns-in-Err
 returns-in-Err c =

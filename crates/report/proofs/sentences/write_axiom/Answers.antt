@@ -7,6 +7,6 @@ use Rattle.report.proofs.sentences.write_axiom.Goals as goal
 
 pub returns-in-ExistsLower : goal.returns-in-ExistsLower
 returns-in-ExistsLower c =
-    IfOk-weaker c.write-exists-lower.result _ _
+    IfOk-weaker c.write_exists_lower.result _ _
     (λ _ e. wrote_same _ (ap (sentence (held c.args.sheet.now)) c.in-ExistsLower.is) e)
-    c.write-exists-lower.ensures
+    c.write_exists_lower.ensures

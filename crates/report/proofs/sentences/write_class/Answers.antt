@@ -6,6 +6,6 @@ use Rattle.report.proofs.sentences.write_class.Goals as goal
 
 pub returns-in-None : goal.returns-in-None
 returns-in-None c =
-    IfOk-weaker c.write-bytes-in-None.result _ _
+    IfOk-weaker c.write_bytes-in-None.result _ _
     (λ _ e. wrote_same _ (get_or_past _ c.args.class [] c.in-None.ensures) e)
-    c.write-bytes-in-None.ensures
+    c.write_bytes-in-None.ensures

@@ -4,6 +4,6 @@ use Rattle.report.proofs.sentences.write_inclusion.Goals as goal
 
 pub returns : goal.returns
 returns c =
-    IfOk-weaker c.write-set-2.result _ _
-    (λ _ e. and_then c.in-ok-write-set.ensures (and_then c.in-ok-write-bytes.ensures e))
-    c.write-set-2.ensures
+    IfOk-weaker c.write_set-2.result _ _
+    (λ _ e. and_then c.in-ok-write_set.ensures (and_then c.in-ok-write_bytes.ensures e))
+    c.write_set-2.ensures

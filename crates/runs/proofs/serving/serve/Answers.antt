@@ -14,10 +14,10 @@ pub returns-in-Amend : goal.returns-in-Amend
 returns-in-Amend g c = rw c.in-Amend.is (record { plain = amends _ _ _ _ c.amend.ensures.plain.gives; shown = tt; over = c.amend.ensures.over; keeps = c.amend.ensures.keeps })
 
 pub returns-in-AuditModel : goal.returns-in-AuditModel
-returns-in-AuditModel g c = rw c.in-AuditModel.is (record { plain = audits_model _ _ _ _ c.audit-model.ensures; shown = tt; over = refl; keeps = c.requires })
+returns-in-AuditModel g c = rw c.in-AuditModel.is (record { plain = audits_model _ _ _ _ c.audit_model.ensures; shown = tt; over = refl; keeps = c.requires })
 
 pub returns-in-AuditEntries : goal.returns-in-AuditEntries
-returns-in-AuditEntries g c = rw c.in-AuditEntries.is (record { plain = audits_entries _ _ _ c.audit-entries.ensures; shown = tt; over = refl; keeps = c.requires })
+returns-in-AuditEntries g c = rw c.in-AuditEntries.is (record { plain = audits_entries _ _ _ c.audit_entries.ensures; shown = tt; over = refl; keeps = c.requires })
 
 pub returns-in-None : goal.returns-in-None
 returns-in-None g c =
@@ -31,8 +31,8 @@ returns-in-None g c =
 pub returns-in-Some : goal.returns-in-Some
 returns-in-Some g c =
     rw (c.in-Ask.is, c.in-Some.is) (record {
-      plain = asks _ _ _ _ _ _ (plain_ask_model (whole_of g.S.Source.meaning c.args.book.now) (lent c.args.contexts.now c.args.clauses.now c.args.model.now) c.in-Ask.held c.in-Ask.denied c.in-Ask.few c.in-Ask.some c.in-Some.words _ (lent_slots _ _ c.args.contexts.now c.min-few.ensures) (lent_slots _ _ c.args.clauses.now c.min-some.ensures) (lent_slots _ _ c.args.model.now c.min-words.ensures) c.ask-model.ensures.gives);
-      shown = shown_ask (whole_of g.S.Source.meaning c.args.book.now) c.in-Ask.held c.in-Ask.denied c.in-Some.words c.ask-model.result (take c.min-words.result c.args.model.now) (c.ask-model.new.model ++ drop c.min-words.result c.args.model.now) (lent_words c.in-Some.words _ c.args.model.now c.min-words.result (c.ask-model.auto.model ∙ lent_slots _ _ c.args.model.now c.min-words.ensures ∙ sym c.min-words.ensures) c.min-words.ensures) c.ask-model.ensures.shows;
+      plain = asks _ _ _ _ _ _ (plain_ask_model (whole_of g.S.Source.meaning c.args.book.now) (lent c.args.contexts.now c.args.clauses.now c.args.model.now) c.in-Ask.held c.in-Ask.denied c.in-Ask.few c.in-Ask.some c.in-Some.words _ (lent_slots _ _ c.args.contexts.now c.min-few.ensures) (lent_slots _ _ c.args.clauses.now c.min-some.ensures) (lent_slots _ _ c.args.model.now c.min-words.ensures) c.ask_model.ensures.gives);
+      shown = shown_ask (whole_of g.S.Source.meaning c.args.book.now) c.in-Ask.held c.in-Ask.denied c.in-Some.words c.ask_model.result (take c.min-words.result c.args.model.now) (c.ask_model.new.model ++ drop c.min-words.result c.args.model.now) (lent_words c.in-Some.words _ c.args.model.now c.min-words.result (c.ask_model.auto.model ∙ lent_slots _ _ c.args.model.now c.min-words.ensures ∙ sym c.min-words.ensures) c.min-words.ensures) c.ask_model.ensures.shows;
       over = refl;
       keeps = c.requires;
     })

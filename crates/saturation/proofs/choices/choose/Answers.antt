@@ -24,33 +24,33 @@ second-init c = (c.first.invariant.1, c.first.invariant.1, λ xs Ts good cited l
 pub third-init : goal.third-init
 third-init c = (c.second.invariant.1, c.second.invariant.1, λ xs Ts good cited listed. none_before _ refl refl good c.second.invariant.1 c.start-k.ensures.1, omega (arith, c.start-k.ensures.0))
 
-pub first-preserved-then-not-is-premise : goal.first-preserved-then-not-is-premise
-first-preserved-then-not-is-premise c = (
+pub first-preserved-then-not-is_premise : goal.first-preserved-then-not-is_premise
+first-preserved-then-not-is_premise c = (
   c.first.invariant.0,
   c.first.invariant.1,
   λ xs Ts good cited listed.
       let i = c.first.invariant.2 xs Ts good cited listed in
-      below_skip (now_held c.first.invariant.0 i _ (omega arith)) i (λ m q. not_from_Decides _ c.is-premise.ensures c.if-not-is-premise.true q.premise),
+      below_skip (now_held c.first.invariant.0 i _ (omega arith)) i (λ m q. not_from_Decides _ c.is_premise.ensures c.if-not-is_premise.true q.premise),
   omega arith,
 )
 
-pub second-preserved-then-not-is-premise-2 : goal.second-preserved-then-not-is-premise-2
-second-preserved-then-not-is-premise-2 c = (
+pub second-preserved-then-not-is_premise-2 : goal.second-preserved-then-not-is_premise-2
+second-preserved-then-not-is_premise-2 c = (
   c.second.invariant.0,
   c.second.invariant.1,
   λ xs Ts good cited listed.
       let i = c.second.invariant.2 xs Ts good cited listed in
-      below_skip (now_held c.second.invariant.0 i _ (omega arith)) i (λ m q. not_from_Decides _ c.is-premise-in-second.ensures c.if-not-is-premise-2.true q.premise),
+      below_skip (now_held c.second.invariant.0 i _ (omega arith)) i (λ m q. not_from_Decides _ c.is_premise-in-second.ensures c.if-not-is_premise-2.true q.premise),
   omega arith,
 )
 
-pub third-preserved-then-not-is-premise-3 : goal.third-preserved-then-not-is-premise-3
-third-preserved-then-not-is-premise-3 c = (
+pub third-preserved-then-not-is_premise-3 : goal.third-preserved-then-not-is_premise-3
+third-preserved-then-not-is_premise-3 c = (
   c.third.invariant.0,
   c.third.invariant.1,
   λ xs Ts good cited listed.
       let i = c.third.invariant.2 xs Ts good cited listed in
-      below_skip (now_held c.third.invariant.0 i _ (omega arith)) i (λ m q. not_from_Decides _ c.is-premise-in-third.ensures c.if-not-is-premise-3.true q.premise),
+      below_skip (now_held c.third.invariant.0 i _ (omega arith)) i (λ m q. not_from_Decides _ c.is_premise-in-third.ensures c.if-not-is_premise-3.true q.premise),
   omega arith,
 )
 
@@ -61,7 +61,7 @@ first-preserved-in-None-highest c = (
   λ xs Ts good cited listed.
       let i = c.first.invariant.2 xs Ts good cited listed in
       below_more (now_held c.first.invariant.0 i _ (omega arith)) i
-      (last_adds xs _ c.lone.ensures (c.union-with-first.ensures ∙ ap (join _) c.without.ensures) (c.if-not-is-premise.ensures.0 refl) c.in-None-highest.ensures
+      (last_adds xs _ c.lone.ensures (c.union-with_first.ensures ∙ ap (join _) c.without.ensures) (c.if-not-is_premise.ensures.0 refl) c.in-None-highest.ensures
       (c.in-ok-counts.ensures.enters xs i.grows.good (lone_cites _ c.lone.ensures (now_cited c.first.invariant.0 i cited)))),
   omega arith,
 )
@@ -73,7 +73,7 @@ second-preserved-in-None-highest-2 c = (
   λ xs Ts good cited listed.
       let i = c.second.invariant.2 xs Ts good cited listed in
       below_more (now_held c.second.invariant.0 i _ (omega arith)) i
-      (last_adds xs _ c.lone-in-None-highest-2.ensures (c.union-with-second.ensures ∙ ap (join _) c.without-in-second.ensures) (c.if-not-is-premise-2.ensures.0 refl) c.in-None-highest-2.ensures
+      (last_adds xs _ c.lone-in-None-highest-2.ensures (c.union-with_second.ensures ∙ ap (join _) c.without-in-second.ensures) (c.if-not-is_premise-2.ensures.0 refl) c.in-None-highest-2.ensures
       (c.in-ok-counts-2.ensures.enters xs i.grows.good (lone_cites _ c.lone-in-None-highest-2.ensures (now_cited c.second.invariant.0 i cited)))),
   omega arith,
 )
@@ -85,7 +85,7 @@ third-preserved c = (
   λ xs Ts good cited listed.
       let i = c.third.invariant.2 xs Ts good cited listed in
       below_more (now_held c.third.invariant.0 i _ (omega arith)) i
-      (last_adds xs _ c.lone-in-third.ensures (c.union-with-third.ensures ∙ ap (join _) c.without-in-third.ensures) (c.if-not-is-premise-3.ensures.0 refl) refl
+      (last_adds xs _ c.lone-in-third.ensures (c.union-with_third.ensures ∙ ap (join _) c.without-in-third.ensures) (c.if-not-is_premise-3.ensures.0 refl) refl
       (c.in-ok-counts-3.ensures.enters xs i.grows.good (lone_cites _ c.lone-in-third.ensures (now_cited c.third.invariant.0 i cited)))),
   omega arith,
 )
@@ -98,7 +98,7 @@ second-preserved c = (
       let i = c.second.invariant.2 xs Ts good cited listed in
       let known = now_listed c.second.invariant.0 i listed in
       below_more (now_held c.second.invariant.0 i _ (omega arith)) i
-      (level_adds (c.union-with-second.ensures ∙ ap (join _) c.without-in-second.ensures) (c.if-not-is-premise-2.ensures.0 refl) known c.in-Some-highest-2.ensures.0 (none_left _ _ _ _ _ _ c.in-Some.ensures.1 c.requires.narrow.1 c.without-others.ensures c.without-last.ensures c.in-Some.ensures.0 c.in-Some-highest.ensures.0 c.in-Some-highest-2.ensures.0) c.third.invariant.3 (omega arith)
+      (level_adds (c.union-with_second.ensures ∙ ap (join _) c.without-in-second.ensures) (c.if-not-is_premise-2.ensures.0 refl) known c.in-Some-highest-2.ensures.0 (none_left _ _ _ _ _ _ c.in-Some.ensures.1 c.requires.narrow.1 c.without-others.ensures c.without-last.ensures c.in-Some.ensures.0 c.in-Some-highest.ensures.0 c.in-Some-highest-2.ensures.0) c.third.invariant.3 (omega arith)
       (c.third.invariant.2 xs Ts i.grows.good (now_cited c.second.invariant.0 i cited) known)),
   omega arith,
 )
@@ -111,7 +111,7 @@ first-preserved c = (
       let i = c.first.invariant.2 xs Ts good cited listed in
       let known = now_listed c.first.invariant.0 i listed in
       below_more (now_held c.first.invariant.0 i _ (omega arith)) i
-      (level_adds (c.union-with-first.ensures ∙ ap (join _) c.without.ensures) (c.if-not-is-premise.ensures.0 refl) known c.in-Some-highest.ensures.0 c.without-last.ensures c.second.invariant.3 (omega arith)
+      (level_adds (c.union-with_first.ensures ∙ ap (join _) c.without.ensures) (c.if-not-is_premise.ensures.0 refl) known c.in-Some-highest.ensures.0 c.without-last.ensures c.second.invariant.3 (omega arith)
       (c.second.invariant.2 xs Ts i.grows.good (now_cited c.first.invariant.0 i cited) known)),
   omega arith,
 )
@@ -125,7 +125,7 @@ returns-in-err-counts c xs Ts good cited listed =
       q.0,
       whole_stuck listed c.in-Some.ensures.0 c.without-others.ensures
           (below_stuck c.first-test.true (now_held c.first.invariant.0 i _ (omega arith)) i
-          (last_stuck xs _ c.lone.ensures (c.union-with-first.ensures ∙ ap (join _) c.without.ensures) (c.if-not-is-premise.ensures.0 refl) c.in-None-highest.ensures q.1)),
+          (last_stuck xs _ c.lone.ensures (c.union-with_first.ensures ∙ ap (join _) c.without.ensures) (c.if-not-is_premise.ensures.0 refl) c.in-None-highest.ensures q.1)),
     )
 
 pub returns-in-err-counts-2 : goal.returns-in-err-counts-2
@@ -140,9 +140,9 @@ returns-in-err-counts-2 c xs Ts good cited listed =
       q.0,
       whole_stuck listed c.in-Some.ensures.0 c.without-others.ensures
           (below_stuck c.first-test.true (now_held c.first.invariant.0 i _ (omega arith)) i
-          (level_stuck (c.union-with-first.ensures ∙ ap (join _) c.without.ensures) (c.if-not-is-premise.ensures.0 refl) known c.in-Some-highest.ensures.0 c.without-last.ensures
+          (level_stuck (c.union-with_first.ensures ∙ ap (join _) c.without.ensures) (c.if-not-is_premise.ensures.0 refl) known c.in-Some-highest.ensures.0 c.without-last.ensures
           (below_stuck c.second-test.true (now_held c.second.invariant.0 j _ (omega arith)) j
-          (last_stuck xs _ c.lone-in-None-highest-2.ensures (c.union-with-second.ensures ∙ ap (join _) c.without-in-second.ensures) (c.if-not-is-premise-2.ensures.0 refl) c.in-None-highest-2.ensures q.1)))),
+          (last_stuck xs _ c.lone-in-None-highest-2.ensures (c.union-with_second.ensures ∙ ap (join _) c.without-in-second.ensures) (c.if-not-is_premise-2.ensures.0 refl) c.in-None-highest-2.ensures q.1)))),
     )
 
 pub returns-in-err-counts-3 : goal.returns-in-err-counts-3
@@ -159,11 +159,11 @@ returns-in-err-counts-3 c xs Ts good cited listed =
       q.0,
       whole_stuck listed c.in-Some.ensures.0 c.without-others.ensures
           (below_stuck c.first-test.true (now_held c.first.invariant.0 i _ (omega arith)) i
-          (level_stuck (c.union-with-first.ensures ∙ ap (join _) c.without.ensures) (c.if-not-is-premise.ensures.0 refl) known c.in-Some-highest.ensures.0 c.without-last.ensures
+          (level_stuck (c.union-with_first.ensures ∙ ap (join _) c.without.ensures) (c.if-not-is_premise.ensures.0 refl) known c.in-Some-highest.ensures.0 c.without-last.ensures
           (below_stuck c.second-test.true (now_held c.second.invariant.0 j _ (omega arith)) j
-          (level_stuck (c.union-with-second.ensures ∙ ap (join _) c.without-in-second.ensures) (c.if-not-is-premise-2.ensures.0 refl) then c.in-Some-highest-2.ensures.0 (none_left _ _ _ _ _ _ c.in-Some.ensures.1 c.requires.narrow.1 c.without-others.ensures c.without-last.ensures c.in-Some.ensures.0 c.in-Some-highest.ensures.0 c.in-Some-highest-2.ensures.0)
+          (level_stuck (c.union-with_second.ensures ∙ ap (join _) c.without-in-second.ensures) (c.if-not-is_premise-2.ensures.0 refl) then c.in-Some-highest-2.ensures.0 (none_left _ _ _ _ _ _ c.in-Some.ensures.1 c.requires.narrow.1 c.without-others.ensures c.without-last.ensures c.in-Some.ensures.0 c.in-Some-highest.ensures.0 c.in-Some-highest-2.ensures.0)
           (below_stuck c.third-test.true (now_held c.third.invariant.0 k _ (omega arith)) k
-          (last_stuck xs _ c.lone-in-third.ensures (c.union-with-third.ensures ∙ ap (join _) c.without-in-third.ensures) (c.if-not-is-premise-3.ensures.0 refl) refl q.1)))))),
+          (last_stuck xs _ c.lone-in-third.ensures (c.union-with_third.ensures ∙ ap (join _) c.without-in-third.ensures) (c.if-not-is_premise-3.ensures.0 refl) refl q.1)))))),
     )
 
 pub returns : goal.returns

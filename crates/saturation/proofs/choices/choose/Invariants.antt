@@ -11,7 +11,7 @@ invariant-third l =
     Room l.slot l.given l.initial.counts l.initial.clauses × Room l.slot l.given l.counts l.clauses
     × ((xs : List ContextRecord) (Ts : List ℕ) → Good (tables xs l.initial.clauses l.initial.counts) → l.given.context < l.initial.counts.contexts
     → Listed l.initial.clauses (l.slot + 1) l.given.context Ts
-    → Adds (Below l.initial.clauses l.k (Pick (context_in xs l.given.context) Ts l.given.context l.top l.given.classes.bits l.third zero l.with-second.bits))
+    → Adds (Below l.initial.clauses l.k (Pick (context_in xs l.given.context) Ts l.given.context l.top l.given.classes.bits l.third zero l.with_second.bits))
     (tables xs l.initial.clauses l.initial.counts) (tables xs l.clauses l.counts))
     × (l.k ≤ l.slot + 1)
 
@@ -20,7 +20,7 @@ invariant-second l =
     Room l.slot l.given l.initial.counts l.initial.clauses × Room l.slot l.given l.counts l.clauses
     × ((xs : List ContextRecord) (Ts : List ℕ) → Good (tables xs l.initial.clauses l.initial.counts) → l.given.context < l.initial.counts.contexts
     → Listed l.initial.clauses (l.slot + 1) l.given.context Ts
-    → Adds (Below l.initial.clauses l.j (Pick (context_in xs l.given.context) Ts l.given.context l.top l.given.classes.bits l.second l.last.bits l.with-first.bits))
+    → Adds (Below l.initial.clauses l.j (Pick (context_in xs l.given.context) Ts l.given.context l.top l.given.classes.bits l.second l.last.bits l.with_first.bits))
     (tables xs l.initial.clauses l.initial.counts) (tables xs l.clauses l.counts))
     × (l.j ≤ l.slot + 1)
 

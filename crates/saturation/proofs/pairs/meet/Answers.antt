@@ -32,11 +32,11 @@ returns-else-not-reaches c axs t e shows first second =
     let w : Meeting c.args.contexts.now c.args.clauses.now c.args.counts c.args.clause c.args.other c.args.part c.args.top t e =
     record { good = c.requires.good; towards = c.requires.toward.0; cited = c.requires.toward.2; lonely = c.requires.headed.1; head = c.requires.headed.2; there = c.requires.headed.3.0; first = first; second = second } in
     some_by axs t e _ c.in-ExistsLower.is _ _ _
-    (denies_enters w _ _ _ _ c.if-filler-top.false ((shows.right _ _ c.requires.toward.1).0 (sym c.reaches.ensures ∙ c.if-not-reaches.false)) _ _ c.if-other-part.false c.with-in-ExistsLower.ensures refl c.with.ensures c.enter-toward.ensures)
+    (denies_enters w _ _ _ _ c.if-filler-top.false ((shows.right _ _ c.requires.toward.1).0 (sym c.reaches.ensures ∙ c.if-not-reaches.false)) _ _ c.if-other-part.false c.with-in-ExistsLower.ensures refl c.with.ensures c.enter_toward.ensures)
 
 pub returns-else-not-reaches-2 : goal.returns-else-not-reaches-2
 returns-else-not-reaches-2 c axs t e shows first second =
     let w : Meeting c.args.contexts.now c.args.clauses.now c.args.counts c.args.clause c.args.other c.args.part c.args.top t e =
     record { good = c.requires.good; towards = c.requires.toward.0; cited = c.requires.toward.2; lonely = c.requires.headed.1; head = c.requires.headed.2; there = c.requires.headed.3.0; first = first; second = second } in
     some_by axs t e _ c.in-Forall.is _ _ _
-    (holds_enters w _ _ _ _ c.if-lower-top.false ((shows.right _ _ c.requires.toward.1).0 (sym c.reaches-else-other-clause.ensures ∙ c.if-not-reaches-2.false)) _ _ c.if-other-clause.false (c.union-classes.ensures ∙ ap (join _) c.without.ensures) c.with-in-Forall.ensures refl c.enter-toward-in-Forall.ensures)
+    (holds_enters w _ _ _ _ c.if-lower-top.false ((shows.right _ _ c.requires.toward.1).0 (sym c.reaches-else-other-clause.ensures ∙ c.if-not-reaches-2.false)) _ _ c.if-other-clause.false (c.union-classes.ensures ∙ ap (join _) c.without.ensures) c.with-in-Forall.ensures refl c.enter_toward-in-Forall.ensures)

@@ -45,8 +45,8 @@ turn-requires c =
       roles = λ x a. roles_low i c.requires.formed (record { held = c.requires.low.0; denied = c.requires.low.1 }) x (among_upto (omega (arith, c.loop-slot-test.true)) a);
     }
 
-pub unfold-all-requires-in-loop-slot : goal.unfold-all-requires-in-loop-slot
-unfold-all-requires-in-loop-slot c =
+pub unfold_all-requires-in-loop-slot : goal.unfold_all-requires-in-loop-slot
+unfold_all-requires-in-loop-slot c =
     let en = c.in-ok-goal.ensures in
     let first = en.adds c.args.clauses.now (none_good _ _) in
     let at = goal_slot c.args.goal en.entered.0 in

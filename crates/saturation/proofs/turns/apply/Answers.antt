@@ -12,8 +12,8 @@ returns-then-not-contains c d Ts given =
     let h : Headed d c.args.top = subst (λ x. Headed x c.args.top) given.means (headed_of (given_record c.args.clauses.now c.args.slot) c.requires.headed.1 c.requires.headed.2 c.args.contexts.now) in
     none_of _ c.in-Inclusion.is Ts d c.requires.good (no_class h (both_ways _ (sym c.if-not-contains.ensures)))
 
-pub enter-toward-requires : goal.enter-toward-requires
-enter-toward-requires c = record { good = c.requires.good; few = c.requires.few; cited = (given_cited c.requires.good c.requires.used).0 }
+pub enter_toward-requires : goal.enter_toward-requires
+enter_toward-requires c = record { good = c.requires.good; few = c.requires.few; cited = (given_cited c.requires.good c.requires.used).0 }
 
 pub returns-else-not-contains : goal.returns-else-not-contains
 returns-else-not-contains c d Ts given =
@@ -26,4 +26,4 @@ pub returns-else-lower-top : goal.returns-else-lower-top
 returns-else-lower-top c d Ts given =
     let h : Headed d c.args.top = subst (λ x. Headed x c.args.top) given.means (headed_of (given_record c.args.clauses.now c.args.slot) c.requires.headed.1 c.requires.headed.2 c.args.contexts.now) in
     some_of _ c.in-Exists.is Ts d _ _ _
-    (succeeds_enters c.args.contexts.now (given_record c.args.clauses.now c.args.slot) _ _ _ _ _ _ _ _ given.means h c.if-lower-top.false c.without.ensures c.single.ensures c.empty.ensures c.enter-toward.ensures)
+    (succeeds_enters c.args.contexts.now (given_record c.args.clauses.now c.args.slot) _ _ _ _ _ _ _ _ given.means h c.if-lower-top.false c.without.ensures c.single.ensures c.empty.ensures c.enter_toward.ensures)

@@ -17,7 +17,7 @@ returns g c =
     let own = take c.args.self.now.count c.args.self.now.own in
     let i = c.args.number in
     let size = length-take-le c.args.self.now.count c.args.self.now.own (omega arith) in
-    let closed = take_struck c.args.self.now.own c.rotate-left.new.self i c.args.self.now.count (omega arith) (omega arith) c.rotate-left.ensures.after in
+    let closed = take_struck c.args.self.now.own c.rotate_left.new.self i c.args.self.now.count (omega arith) (omega arith) c.rotate_left.ensures.after in
     record {
       plain = settled (strike_checks own i) own (struck own i) (done tt) _ ((omega arith, tt), tt) closed;
       over = refl {a = c.args.self.now.source};

@@ -32,4 +32,4 @@ returns-in-err-add c =
     rw (p.1, p.2) (stop_entry c.loop-reader.invariant _ _ _ _ _ _ (entry_of c.in-ok-item.field-0) (bad.1 ∙ read.1) bad.2 read.0 said.1 said.0 bad.0)
 
 pub returns : goal.returns
-returns c = finish c.loop-reader.invariant (c.is-done.ensures.0 c.loop-reader-test.false)
+returns c = finish c.loop-reader.invariant (c.is_done.ensures.0 c.loop-reader-test.false)

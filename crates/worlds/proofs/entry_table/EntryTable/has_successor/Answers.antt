@@ -8,7 +8,7 @@ use Rattle.worlds.proofs.entry_table.EntryTable.has_successor.Goals as goal
 use Rattle.worlds.proofs.entry_table.EntryTable.has_successor.Goals.{else-link-role-via-then-link-role+else-contains-inside, else-link-role-via-else-link-role}
 
 pub loop-at-init : goal.loop-at-init
-loop-at-init c = walk_start c.args.self.now.links.now c.args.element c.last-link-at.result _ c.last-link-at.ensures
+loop-at-init c = walk_start c.args.self.now.links.now c.args.element c.last_link-at.result _ c.last_link-at.ensures
 
 pub returns-then-contains-inside : goal.returns-then-contains-inside
 returns-then-contains-inside c =
@@ -20,19 +20,19 @@ returns-then-contains-inside c =
       λ _. (
         (get_or xs i no_link).to,
         ((t.fit i l).2, join_any xs c.args.role c.args.element (get_or xs i no_link).to i (record { there = l; from_is = from; role_is = c.if-link-role.true; to_is = refl })),
-        sym (c.classes-of.ensures c.args.class) ∙ sym c.contains.ensures ∙ same_bools _ _ c.if-contains-inside.true,
+        sym (c.classes_of.ensures c.args.class) ∙ sym c.contains.ensures ∙ same_bools _ _ c.if-contains-inside.true,
       ),
       λ _. refl,
     )
 
 pub loop-at-smaller : goal.loop-at-smaller
-loop-at-smaller c = walk_less c.args.self.now.links.now c.loop-at.at c.link-before-at.result (omega arith) c.link-before-at.ensures
+loop-at-smaller c = walk_less c.args.self.now.links.now c.loop-at.at c.link_before-at.result (omega arith) c.link_before-at.ensures
 
 pub loop-at-preserved : goal.loop-at-preserved
 loop-at-preserved c =
-    walk_step c.args.self.now.links.now c.loop-at.invariant (omega arith) c.link-before-at.result c.link-before-at.ensures
+    walk_step c.args.self.now.links.now c.loop-at.invariant (omega arith) c.link_before-at.result c.link_before-at.ensures
     (λ role_is inside_is. elim c.else-link-role.branch [
-      | else-link-role-via-then-link-role+else-contains-inside w ↦ other_bools _ _ w.if-contains-inside.false (w.contains.ensures ∙ w.classes-of.ensures c.args.class ∙ inside_is)
+      | else-link-role-via-then-link-role+else-contains-inside w ↦ other_bools _ _ w.if-contains-inside.false (w.contains.ensures ∙ w.classes_of.ensures c.args.class ∙ inside_is)
       | else-link-role-via-else-link-role w ↦ w.if-link-role.false role_is
     ])
 

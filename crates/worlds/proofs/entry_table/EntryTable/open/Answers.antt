@@ -5,12 +5,12 @@ use Rattle.worlds.proofs.entry_table.EntryTable.open.Goals as goal
 
 pub new-requires : goal.new-requires
 new-requires c =
-    let fit = c.all-fit.ensures.0 c.if-not-all-fit.false in
-    (c.if-links-gt-MOST-LINKS.false, λ i l. omega (arith, (All-get_or (Fits (length c.args.classes.now)) c.args.links.now i no_link l fit).0))
+    let fit = c.all_fit.ensures.0 c.if-not-all_fit.false in
+    (c.if-links-gt-MOST_LINKS.false, λ i l. omega (arith, (All-get_or (Fits (length c.args.classes.now)) c.args.links.now i no_link l fit).0))
 
 pub invariant-of-self : goal.invariant-of-self
 invariant-of-self c =
-    let fit = c.all-fit.ensures.0 c.if-not-all-fit.false in (
-      (search rules, c.if-classes-gt-MOST-ENTRIES.false, c.if-links-gt-MOST-LINKS.false),
+    let fit = c.all_fit.ensures.0 c.if-not-all_fit.false in (
+      (search rules, c.if-classes-gt-MOST_ENTRIES.false, c.if-links-gt-MOST_LINKS.false),
       (λ i l. All-get_or (Fits (length c.args.classes.now)) c.args.links.now i no_link l fit, (c.new.ensures.last, (c.new.ensures.previous, tt))),
     )

@@ -5,24 +5,24 @@ use Rattle.worlds.proofs.entry_table.EntryTable.successors.Goals as goal
 use Rattle.worlds.proofs.entry_table.EntryTable.successors.Goals.{then-link-role, else-link-role}
 
 pub loop-at-init : goal.loop-at-init
-loop-at-init c = collect_none c.args.self.now.links.now c.args.role c.args.element c.last-link-at.result c.new-marks.result.words c.last-link-at.ensures c.new-marks.ensures
+loop-at-init c = collect_none c.args.self.now.links.now c.args.role c.args.element c.last_link-at.result c.new-marks.result.words c.last_link-at.ensures c.new-marks.ensures
 
 pub loop-at-smaller : goal.loop-at-smaller
-loop-at-smaller c = walk_less c.args.self.now.links.now c.loop-at.at c.link-before-at.result (omega arith) c.link-before-at.ensures
+loop-at-smaller c = walk_less c.args.self.now.links.now c.loop-at.at c.link_before-at.result (omega arith) c.link_before-at.ensures
 
 pub loop-at-preserved : goal.loop-at-preserved
 loop-at-preserved c =
     let xs = c.args.self.now.links.now in
     let k = c.args.role in
     let d = c.args.element in
-    let next = c.link-before-at.result in
+    let next = c.link_before-at.result in
     elim c.if-link-role.branch [
       | then-link-role w ↦
           subst (λ m. Collects xs k d next m.words) (sym w.marks-is)
-          (collect_mark xs k d c.loop-at.invariant (omega arith) next c.link-before-at.ensures w.if-link-role.true w.set.new.self.words w.set.ensures)
+          (collect_mark xs k d c.loop-at.invariant (omega arith) next c.link_before-at.ensures w.if-link-role.true w.set.new.self.words w.set.ensures)
       | else-link-role w ↦
           subst (λ m. Collects xs k d next m.words) (sym w.marks-is)
-          (collect_skip xs k d c.loop-at.invariant (omega arith) next c.link-before-at.ensures w.if-link-role.false)
+          (collect_skip xs k d c.loop-at.invariant (omega arith) next c.link_before-at.ensures w.if-link-role.false)
     ]
 
 pub returns : goal.returns

@@ -7,12 +7,12 @@ use Rattle.worlds.specs.Entries.{marked}
 use Rattle.worlds.proofs.Marking.{within_marks, marks_within}
 use Rattle.worlds.proofs.marks.Marks.is_subset.Goals as goal
 
-pub returns-then-not-is-subset : goal.returns-then-not-is-subset
-returns-then-not-is-subset g c = (
+pub returns-then-not-is_subset : goal.returns-then-not-is_subset
+returns-then-not-is_subset g c = (
   λ e. absurd (clash e),
-  λ h. absurd (not_from_Decides _ c.is-subset.ensures c.if-not-is-subset.true (λ a m.
-      let here : has (get_or c.args.self.now.words c.loop-at.at 0) a ≡ true = ap (λ s. has s a) (sym c.from-bits.ensures) ∙ m in
-      ap (λ s. has s a) c.from-bits-in-loop-at.ensures ∙ marks_within c.args.self.now.words c.args.other.now.words h c.loop-at.at a (below_of 64 c.from-bits.result.bits a (omega arith) m) here)),
+  λ h. absurd (not_from_Decides _ c.is_subset.ensures c.if-not-is_subset.true (λ a m.
+      let here : has (get_or c.args.self.now.words c.loop-at.at 0) a ≡ true = ap (λ s. has s a) (sym c.from_bits.ensures) ∙ m in
+      ap (λ s. has s a) c.from_bits-in-loop-at.ensures ∙ marks_within c.args.self.now.words c.args.other.now.words h c.loop-at.at a (below_of 64 c.from_bits.result.bits a (omega arith) m) here)),
 )
 
 pub returns : goal.returns

@@ -3,8 +3,8 @@ use Rattle.std.proofs.lemmas.List.{places}
 use Rattle.book.proofs.Keeping.{limits_below}
 use Rattle.book.proofs.book.reading.BookSource.axiom_count.Goals as goal
 
-pub axiom-count-requires : goal.axiom-count-requires
-axiom-count-requires g c = limits_below _ _ c.requires
+pub axiom_count-requires : goal.axiom_count-requires
+axiom_count-requires g c = limits_below _ _ c.requires
 
 pub overflow-add-result : goal.overflow-add-result
 overflow-add-result g c = search (rules, places)
