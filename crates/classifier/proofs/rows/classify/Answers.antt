@@ -6,14 +6,14 @@ use Rattle.classifier.proofs.Growing.{row_sized, rows_more, rows_cut, rows_all}
 use Rattle.classifier.proofs.Oneness.{one_outcome}
 use Rattle.classifier.proofs.rows.classify.Goals as goal
 
-pub returns-in-err-row : goal.returns-in-err-row
-returns-in-err-row g c =
-    let p = err_from_is_err_and c.from-residual.result c.from-residual.ensures.1 in
+pub returns-in_err-row : goal.returns-in_err-row
+returns-in_err-row g c =
+    let p = err_from_is_err_and c.from_residual.result c.from_residual.ensures.1 in
     let m = g.S.Source.meaning c.args.source.now in
     let s = lent c.args.contexts.now c.args.clauses.now c.args.rows.now in
     let u = lent c.row_of.new.contexts c.row_of.new.clauses c.loop-lower.rows in
-    let f = c.in-err-row.field-0.0 in
-    let q = row_sized m c.loop-lower.lower _ _ (refused _ _ _) c.loop-lower.auto.contexts c.loop-lower.auto.clauses c.in-err-row.ensures in
+    let f = c.in_err-row.field-0.0 in
+    let q = row_sized m c.loop-lower.lower _ _ (refused _ _ _) c.loop-lower.auto.contexts c.loop-lower.auto.clauses c.in_err-row.ensures in
     let h : Classified {V = Unit {0}} m s u (refused (number f.kind) f.place f.layer) = inr (
       ((omega (arith, c.class_count-classes.ensures), omega arith, omega arith), tt),
       q.0,
@@ -25,7 +25,7 @@ returns-in-err-row g c =
 pub loop-lower-preserved : goal.loop-lower-preserved
 loop-lower-preserved g c =
     let m = g.S.Source.meaning c.args.source.now in
-    let q = row_sized m c.loop-lower.lower _ _ (done _) c.loop-lower.auto.contexts c.loop-lower.auto.clauses c.in-ok-row.ensures in
+    let q = row_sized m c.loop-lower.lower _ _ (done _) c.loop-lower.auto.contexts c.loop-lower.auto.clauses c.in_ok-row.ensures in
     rows_more c.loop-lower.invariant _ _ _ _ c.bits.ensures (omega (arith, c.loop-lower-test.true, c.loop-lower.auto.rows)) q
 
 pub returns : goal.returns

@@ -10,17 +10,17 @@ use Rattle.classifier.proofs.rows.row_of.Goals.{then-under, else-under}
 pub loop-upper-init : goal.loop-upper-init
 loop-upper-init g c = row_none _ c.empty-row.ensures
 
-pub returns-in-err-under : goal.returns-in-err-under
-returns-in-err-under g c =
-    let p = err_from_is_err_and c.from-residual.result c.from-residual.ensures.1 in
+pub returns-in_err-under : goal.returns-in_err-under
+returns-in_err-under g c =
+    let p = err_from_is_err_and c.from_residual.result c.from_residual.ensures.1 in
     let m = g.S.Source.meaning c.args.source.now in
-    let q = asked_sized m.axioms c.args.lower c.loop-upper.upper _ _ (refused _ _ _) c.loop-upper.auto.contexts c.loop-upper.auto.clauses c.in-err-under.ensures in
+    let q = asked_sized m.axioms c.args.lower c.loop-upper.upper _ _ (refused _ _ _) c.loop-upper.auto.contexts c.loop-upper.auto.clauses c.in_err-under.ensures in
     rw (p.1, p.2) (row_cut c.loop-upper.invariant m.classes (omega (arith, c.loop-upper-test.true, c.class_count-upper-end.ensures)) _ _ _ q)
 
 pub loop-upper-preserved : goal.loop-upper-preserved
 loop-upper-preserved g c =
     let m = g.S.Source.meaning c.args.source.now in
-    let q = asked_sized m.axioms c.args.lower c.loop-upper.upper _ _ (done _) c.loop-upper.auto.contexts c.loop-upper.auto.clauses c.in-ok-under.ensures in
+    let q = asked_sized m.axioms c.args.lower c.loop-upper.upper _ _ (done _) c.loop-upper.auto.contexts c.loop-upper.auto.clauses c.in_ok-under.ensures in
     elim c.if-under.branch [
       | then-under w ↦ row_yes c.loop-upper.invariant _ (ap (λ (s : ClassSet). s.bits) w.row-is ∙ w.with-row.ensures) _ w.if-under.true q
       | else-under w ↦ row_no c.loop-upper.invariant _ (ap (λ (s : ClassSet). s.bits) w.row-is) _ w.if-under.false q

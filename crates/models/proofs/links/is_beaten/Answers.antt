@@ -3,7 +3,7 @@ use Rattle.std.proofs.lemmas.Bool.Decides.{not_from_Decides}
 use Rattle.models.specs.Targets.{Beats}
 use Rattle.models.proofs.Marking.{beaten_no, beaten_yes, wish_safe}
 use Rattle.models.proofs.links.is_beaten.Goals as goal
-use Rattle.models.proofs.links.is_beaten.Goals.{in-Some+else-beats, in-default}
+use Rattle.models.proofs.links.is_beaten.Goals.{in-Some+else-beats, in_default}
 
 pub beats-requires : goal.beats-requires
 beats-requires c =
@@ -22,6 +22,6 @@ loop-clause-preserved c =
     (λ q w b. elim c.match-wish.branch [
       | in-Some+else-beats v ↦ (let e : q ≡ v.in-Some.other = cc ((c.wish.ensures q).1 w, v.in-Some.is) in
           not_from_Decides _ v.beats.ensures v.if-beats.false (subst (λ y. Beats c.args.contexts.now y c.args.part) e b))
-      | in-default v ↦ v.in-default.not-Some q ((c.wish.ensures q).1 w)
+      | in_default v ↦ v.in_default.not-Some q ((c.wish.ensures q).1 w)
     ])
     c.loop-clause.invariant

@@ -8,7 +8,7 @@ use Rattle.models.specs.Targets.{Wishes, Beaten}
 use Rattle.models.proofs.Counting.{live_le}
 use Rattle.models.proofs.Marking.{pointed_none, pointed_no, pointed_yes, wish_safe, wishes_one}
 use Rattle.models.proofs.links.wanted_links.Goals as goal
-use Rattle.models.proofs.links.wanted_links.Goals.{in-Some+then-live-target+then-not-is_beaten, in-Some+else-live-target, else-live-target-via-then-live-target+else-not-is_beaten, else-live-target-via-else-live-target, in-default}
+use Rattle.models.proofs.links.wanted_links.Goals.{in-Some+then-live-target+then-not-is_beaten, in-Some+else-live-target, else-live-target-via-then-live-target+else-not-is_beaten, else-live-target-via-else-live-target, in_default}
 
 pub loop-clause-init : goal.loop-clause-init
 loop-clause-init c = pointed_none c.args.contexts.now c.args.clauses.now c.args.live.now c.args.slot c.args.seen.bits
@@ -62,5 +62,5 @@ loop-clause-preserved c =
             | else-live-target-via-else-live-target v ↦ both_ways _ v.if-live-target.false (ap (is_live live) w.from-target.ensures ∙ ap (λ (q : RolePart). is_live live q.context) one ∙ there)
           ])
           c.loop-clause.invariant
-      | in-default w ↦ pointed_no cs xs live h s k links c.match-wish.links w.links-is (λ r y there best. w.in-default.not-Some r ((c.wish.ensures r).1 y)) c.loop-clause.invariant
+      | in_default w ↦ pointed_no cs xs live h s k links c.match-wish.links w.links-is (λ r y there best. w.in_default.not-Some r ((c.wish.ensures r).1 y)) c.loop-clause.invariant
     ]

@@ -25,8 +25,8 @@ overflow-mul-start c = let h = room c in search rules
 pub overflow-add-start : goal.overflow-add-start
 overflow-add-start c = let h = room c in search rules
 
-pub offset-bounds-model-start : goal.offset-bounds-model-start
-offset-bounds-model-start c = let h = room c in search rules
+pub offset_bounds-model-start : goal.offset_bounds-model-start
+offset_bounds-model-start c = let h = room c in search rules
 
 pub slice-bounds-write_row-end : goal.slice-bounds-write_row-end
 slice-bounds-write_row-end c = let h = room c in search rules

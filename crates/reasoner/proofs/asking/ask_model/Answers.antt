@@ -7,16 +7,16 @@ use Rattle.reasoner.specs.Asks.{RowEach, Right, Numbered}
 use Rattle.reasoner.proofs.Admitting.{formed_up, below_up, first_more, not_full, then_answers, numbered_of, tables_of}
 use Rattle.reasoner.proofs.asking.ask_model.Goals as goal
 
-pub returns-in-err-admit : goal.returns-in-err-admit
-returns-in-err-admit g c =
-    let p = err_from_is_err_and c.from-residual.result c.from-residual.ensures.1 in
+pub returns-in_err-admit : goal.returns-in_err-admit
+returns-in_err-admit g c =
+    let p = err_from_is_err_and c.from_residual.result c.from_residual.ensures.1 in
     let m = g.S.Source.meaning c.args.source.now in
     let k = length c.args.contexts.now in
     let l = length c.args.clauses.now in
     let w = length c.args.model.now in
     let A = k * (1 + 4 * c.role_count-roles.result) ≤ w in
     let same = ap (λ r. k * (1 + 4 * r)) c.role_count-roles.ensures in
-    let f = c.in-err-admit.ensures in
+    let f = c.in_err-admit.ensures in
     rw (p.1, p.2) (record {
       gives = (first_more m c.args.held c.args.denied k l A (RowEach m.roles k w) c.class_count.ensures (λ h. omega (arith, h, same)) _ f.0, f.1, f.2);
       after = inr (not_full _ c.args.held c.args.denied k l A _ f.0, refl, refl);
@@ -31,7 +31,7 @@ conclude_model-requires g c =
     let w = length c.args.model.now in
     let A = k * (1 + 4 * c.role_count-roles.result) ≤ w in
     let same = ap (λ r. k * (1 + 4 * r)) c.role_count-roles.ensures in
-    let p = c.in-ok-admit.ensures.0 in
+    let p = c.in_ok-admit.ensures.0 in
     record {
       loaded = omega (arith, c.load-count.ensures.count, c.requires.few_axioms, c.load-count.auto.axioms);
       formed = subst (All (WellFormed 64 c.role_count-roles.result)) (sym c.load-count.ensures.loaded) (formed_up c.requires.few_classes (omega (arith, c.role_count-roles.ensures)) m.axioms c.requires.formed);
@@ -48,7 +48,7 @@ returns g c =
     let w = length c.args.model.now in
     let A = k * (1 + 4 * c.role_count-roles.result) ≤ w in
     let same = ap (λ r. k * (1 + 4 * r)) c.role_count-roles.ensures in
-    let p = c.in-ok-admit.ensures.0 in
+    let p = c.in_ok-admit.ensures.0 in
     let e = c.load-count.ensures.loaded in
     record {
       gives = then_answers m c.args.held c.args.denied k l A (RowEach m.roles k w) c.class_count.ensures (λ h. omega (arith, h, same)) (λ a. Right m.axioms c.args.held c.args.denied a × Numbered a) (told c.conclude_model.result) p (numbered_of c.args.held c.args.denied e k l (told c.conclude_model.result) c.conclude_model.ensures.gives);

@@ -11,5 +11,5 @@ returns c =
     let later = ne_eqb c.args.written 0 (omega arith) in
     let name = class_name (held c.args.sheet.now) c.args.class in
     IfOk-weaker c.write_class-2.result _ _
-    (λ _ e. wrote_same _ (ap (λ j. j ++ name) (cond-false _ _ _ later)) (and_then c.in-ok-write_bytes.ensures e))
+    (λ _ e. wrote_same _ (ap (λ j. j ++ name) (cond-false _ _ _ later)) (and_then c.in_ok-write_bytes.ensures e))
     c.write_class-2.ensures

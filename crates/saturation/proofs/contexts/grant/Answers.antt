@@ -13,13 +13,13 @@ pub loop-k-preserved : goal.loop-k-preserved
 loop-k-preserved c =
     let i = c.loop-k.invariant in
     below_more (holds_get_or _ _ _ (omega arith)) i
-    (lower_adds c.args.contexts.now c.lone.result c.in-Some.upper c.in-Some.ensures c.lone.ensures (c.in-ok-counts.ensures.enters c.args.contexts.now i.grows.good (lone_cites c.lone.result c.lone.ensures (omega (arith, c.requires.used, i.grows.contexts.more)))))
+    (lower_adds c.args.contexts.now c.lone.result c.in-Some.upper c.in-Some.ensures c.lone.ensures (c.in_ok-counts.ensures.enters c.args.contexts.now i.grows.good (lone_cites c.lone.result c.lone.ensures (omega (arith, c.requires.used, i.grows.contexts.more)))))
 
-pub returns-in-err-counts : goal.returns-in-err-counts
-returns-in-err-counts c =
-    let p = err_from_is_err_and c.from-residual.result c.from-residual.ensures.1 in
+pub returns-in_err-counts : goal.returns-in_err-counts
+returns-in_err-counts c =
+    let p = err_from_is_err_and c.from_residual.result c.from_residual.ensures.1 in
     let i = c.loop-k.invariant in
-    let q = c.in-err-counts.ensures.enters c.args.contexts.now i.grows.good (lone_cites c.lone.result c.lone.ensures (omega (arith, c.requires.used, i.grows.contexts.more))) in
+    let q = c.in_err-counts.ensures.enters c.args.contexts.now i.grows.good (lone_cites c.lone.result c.lone.ensures (omega (arith, c.requires.used, i.grows.contexts.more))) in
     rw p.1 (
       q.0,
       below_stuck (omega arith) (holds_get_or _ _ _ (omega arith)) i

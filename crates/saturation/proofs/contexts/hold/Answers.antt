@@ -17,13 +17,13 @@ loop-class-preserved-then-not-contains c = held_skip c.loop-class.invariant (bot
 pub loop-class-preserved : goal.loop-class-preserved
 loop-class-preserved c =
     let i = c.loop-class.invariant in
-    held_more c.args.contexts.now c.loop-class.class c.lone.result (sym c.contains.ensures ∙ c.if-not-contains.false) c.lone.ensures c.single.ensures i (c.in-ok-counts.ensures.enters c.args.contexts.now i.grows.good (lone_cites c.lone.result c.lone.ensures (omega (arith, c.requires.used, i.grows.contexts.more))))
+    held_more c.args.contexts.now c.loop-class.class c.lone.result (sym c.contains.ensures ∙ c.if-not-contains.false) c.lone.ensures c.single.ensures i (c.in_ok-counts.ensures.enters c.args.contexts.now i.grows.good (lone_cites c.lone.result c.lone.ensures (omega (arith, c.requires.used, i.grows.contexts.more))))
 
-pub returns-in-err-counts : goal.returns-in-err-counts
-returns-in-err-counts c =
-    let p = err_from_is_err_and c.from-residual.result c.from-residual.ensures.1 in
+pub returns-in_err-counts : goal.returns-in_err-counts
+returns-in_err-counts c =
+    let p = err_from_is_err_and c.from_residual.result c.from_residual.ensures.1 in
     let i = c.loop-class.invariant in
-    let q = c.in-err-counts.ensures.enters c.args.contexts.now i.grows.good (lone_cites c.lone.result c.lone.ensures (omega (arith, c.requires.used, i.grows.contexts.more))) in
+    let q = c.in_err-counts.ensures.enters c.args.contexts.now i.grows.good (lone_cites c.lone.result c.lone.ensures (omega (arith, c.requires.used, i.grows.contexts.more))) in
     rw p.1 (q.0, held_stuck c.args.contexts.now c.loop-class.class c.lone.result (sym c.contains.ensures ∙ c.if-not-contains.false) c.lone.ensures c.single.ensures i q.1)
 
 pub returns : goal.returns

@@ -23,15 +23,15 @@ loop-k-preserved c t e first second =
     let i = c.loop-k.invariant t e first second in
     let k = i.grows.contexts.kept in
     below_more (holds_get_or _ _ _ (omega arith)) i
-    (c.in-ok-counts.ensures c.args.axioms.now t e c.requires.shows (clause_of_kept k _ c.requires.toward.2 ∙ first) (clause_of_kept k _ c.requires.headed.3 ∙ second))
+    (c.in_ok-counts.ensures c.args.axioms.now t e c.requires.shows (clause_of_kept k _ c.requires.toward.2 ∙ first) (clause_of_kept k _ c.requires.headed.3 ∙ second))
 
 pub returns : goal.returns
 returns c t e first second = below_end (omega arith) (omega arith) (c.loop-k.invariant t e first second)
 
-pub returns-in-err-counts : goal.returns-in-err-counts
-returns-in-err-counts c t e first second =
-    let p = err_from_is_err_and c.from-residual.result c.from-residual.ensures.1 in
+pub returns-in_err-counts : goal.returns-in_err-counts
+returns-in_err-counts c t e first second =
+    let p = err_from_is_err_and c.from_residual.result c.from_residual.ensures.1 in
     let i = c.loop-k.invariant t e first second in
     let k = i.grows.contexts.kept in
-    let q = c.in-err-counts.ensures c.args.axioms.now t e c.requires.shows (clause_of_kept k _ c.requires.toward.2 ∙ first) (clause_of_kept k _ c.requires.headed.3 ∙ second) in
+    let q = c.in_err-counts.ensures c.args.axioms.now t e c.requires.shows (clause_of_kept k _ c.requires.toward.2 ∙ first) (clause_of_kept k _ c.requires.headed.3 ∙ second) in
     rw p.1 (q.0, below_stuck (omega arith) (holds_get_or _ _ _ (omega arith)) i q.1)

@@ -10,13 +10,13 @@ pub unfold-requires : goal.unfold-requires
 unfold-requires c = let i = c.loop-slot.invariant in record { good = i.0.grows.good; few = c.requires.few; used = omega (arith, i.0.grows.contexts.more) }
 
 pub loop-slot-preserved : goal.loop-slot-preserved
-loop-slot-preserved c = let i = c.loop-slot.invariant in (slots_more i.1 i.0 c.in-ok-counts.ensures, omega arith)
+loop-slot-preserved c = let i = c.loop-slot.invariant in (slots_more i.1 i.0 c.in_ok-counts.ensures, omega arith)
 
-pub returns-in-err-counts : goal.returns-in-err-counts
-returns-in-err-counts c =
-    let p = err_from_is_err_and c.from-residual.result c.from-residual.ensures.1 in
+pub returns-in_err-counts : goal.returns-in_err-counts
+returns-in_err-counts c =
+    let p = err_from_is_err_and c.from_residual.result c.from_residual.ensures.1 in
     let i = c.loop-slot.invariant in
-    let q = c.in-err-counts.ensures in
+    let q = c.in_err-counts.ensures in
     rw p.1 (q.0, slots_stuck i.1 c.loop-slot-test.true i.0 q.1)
 
 pub returns : goal.returns

@@ -18,7 +18,7 @@ deny-requires c = record { good = c.requires.good; cited = given_cited c.require
 
 pub loop-k-init : goal.loop-k-init
 loop-k-init c =
-    let p = c.in-ok-counts.ensures in
+    let p = c.in_ok-counts.ensures in
     let e = given_same p.grows c.args.slot c.requires.used in
     let h = c.in-Some.ensures in (
       p.grows.good,
@@ -49,29 +49,29 @@ loop-k-preserved c =
       i.1,
       λ d Ts given.
           let p = i.2 d Ts given in
-          below_more (holds_get_or _ _ _ (omega arith)) p (c.in-ok-counts-2.ensures d Ts (given_on i.0 p.grows given)),
+          below_more (holds_get_or _ _ _ (omega arith)) p (c.in_ok-counts-2.ensures d Ts (given_on i.0 p.grows given)),
       i.3,
       i.4,
     )
 
-pub returns-in-err-counts : goal.returns-in-err-counts
-returns-in-err-counts c d Ts given =
-    let p = err_from_is_err_and c.from-residual.result c.from-residual.ensures.1 in
-    let q = c.in-err-counts.ensures in
+pub returns-in_err-counts : goal.returns-in_err-counts
+returns-in_err-counts c d Ts given =
+    let p = err_from_is_err_and c.from_residual.result c.from_residual.ensures.1 in
+    let q = c.in_err-counts.ensures in
     rw p.1 (q.0, stuck_as q.1 (λ m b. inl (subst (λ x. Brought (DeniedHead x) m) given.means b)))
 
-pub returns-in-err-counts-2 : goal.returns-in-err-counts-2
-returns-in-err-counts-2 c d Ts given =
-    let p = err_from_is_err_and c.from-residual-in-err-counts-2.result c.from-residual-in-err-counts-2.ensures.1 in
-    let first = c.in-ok-counts.ensures in
+pub returns-in_err-counts-2 : goal.returns-in_err-counts-2
+returns-in_err-counts-2 c d Ts given =
+    let p = err_from_is_err_and c.from_residual-in_err-counts-2.result c.from_residual-in_err-counts-2.ensures.1 in
+    let first = c.in_ok-counts.ensures in
     let i = c.loop-k.invariant in
     let then = given_on c.requires.good first.grows given in
     let more = i.2 d Ts then in
-    let q = c.in-err-counts-2.ensures d Ts (given_on i.0 more.grows then) in
+    let q = c.in_err-counts-2.ensures d Ts (given_on i.0 more.grows then) in
     rw p.1 (q.0, stuck_then first (below_stuck (omega arith) (holds_get_or _ _ _ (omega arith)) more q.1) (λ m b. inl (subst (λ x. Brought (DeniedHead x) m) given.means b)) (λ m b. inr b))
 
 pub returns : goal.returns
 returns c d Ts given =
-    let first = c.in-ok-counts.ensures in
+    let first = c.in_ok-counts.ensures in
     adds_then first (below_end (omega arith) (omega arith) (c.loop-k.invariant.2 d Ts (given_on c.requires.good first.grows given)))
     (λ m o. ⊎_elim (λ b. inl (subst (λ x. Brought (DeniedHead x) m) (sym given.means) b)) inr o) (λ m b. inl (subst (λ x. Brought (DeniedHead x) m) given.means b)) (λ m b. inr b)

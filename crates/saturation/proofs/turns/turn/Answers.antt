@@ -14,7 +14,7 @@ pub loop-j-init : goal.loop-j-init
 loop-j-init c =
     let s = tables c.args.contexts.now c.args.clauses.now c.args.counts in
     let a = given_any s c.args.slot c.requires.good c.requires.used in
-    let w = (c.in-ok-counts.ensures _ a.0 a.1).grows in
+    let w = (c.in_ok-counts.ensures _ a.0 a.1).grows in
     let cited = given_cited c.requires.good c.requires.used in (
       λ d is. below_none w.good,
       omega (arith, c.requires.used, w.clauses.more),
@@ -44,7 +44,7 @@ pair-requires-in-loop-j c =
     let i = c.loop-j.invariant in
     let w = (i.0 _ refl).grows in
     let o = i.6 (given_record c.loop-j.clauses c.loop-j.j) (other_among i.2 w i.1 (omega arith)) in
-    let v = (c.in-ok-counts-2.ensures _ _ refl refl).grows in
+    let v = (c.in_ok-counts-2.ensures _ _ refl refl).grows in
     let z = grows_then w v in
     record {
       formed = c.requires.formed;
@@ -63,9 +63,9 @@ loop-j-preserved c =
           let w = p.grows in
           let h = other_holds i.2 w i.1 c.loop-j-test.true in
           let o = (i.6 (given_record c.loop-j.clauses c.loop-j.j) (other_among i.2 w i.1 (omega arith))).1 in
-          let q = c.in-ok-counts-2.ensures d (clause_of _ (given_record c.loop-j.clauses c.loop-j.j)) (means_on w (given_record c.args.clauses.now c.args.slot) i.4 is) (means_on w (given_record c.loop-j.clauses c.loop-j.j) o refl) in
+          let q = c.in_ok-counts-2.ensures d (clause_of _ (given_record c.loop-j.clauses c.loop-j.j)) (means_on w (given_record c.args.clauses.now c.args.slot) i.4 is) (means_on w (given_record c.loop-j.clauses c.loop-j.j) o refl) in
           let z = grows_then w q.grows in
-          let r = c.in-ok-counts-3.ensures (clause_of _ (given_record c.loop-j.clauses c.loop-j.j)) d (means_on z (given_record c.loop-j.clauses c.loop-j.j) o refl) (means_on z (given_record c.args.clauses.now c.args.slot) i.4 is) in
+          let r = c.in_ok-counts-3.ensures (clause_of _ (given_record c.loop-j.clauses c.loop-j.j)) d (means_on z (given_record c.loop-j.clauses c.loop-j.j) o refl) (means_on z (given_record c.args.clauses.now c.args.slot) i.4 is) in
           below_more h p (adds_then q r (λ m e. e) (λ m b. inl b) (λ m b. inr b)),
       i.1,
       i.2,
@@ -94,42 +94,42 @@ loop-j-preserved-then-not-shares-2 c =
       i.6,
     )
 
-pub returns-in-err-counts : goal.returns-in-err-counts
-returns-in-err-counts c d Ts given =
-    let p = err_from_is_err_and c.from-residual.result c.from-residual.ensures.1 in
-    let q = c.in-err-counts.ensures d Ts given in
+pub returns-in_err-counts : goal.returns-in_err-counts
+returns-in_err-counts c d Ts given =
+    let p = err_from_is_err_and c.from_residual.result c.from_residual.ensures.1 in
+    let q = c.in_err-counts.ensures d Ts given in
     rw p.1 (q.0, stuck_as q.1 (λ m o. inl o))
 
-pub returns-in-err-counts-2 : goal.returns-in-err-counts-2
-returns-in-err-counts-2 c d Ts given =
-    let e = err_from_is_err_and c.from-residual-in-err-counts-2.result c.from-residual-in-err-counts-2.ensures.1 in
-    let first = c.in-ok-counts.ensures d Ts given in
+pub returns-in_err-counts-2 : goal.returns-in_err-counts-2
+returns-in_err-counts-2 c d Ts given =
+    let e = err_from_is_err_and c.from_residual-in_err-counts-2.result c.from_residual-in_err-counts-2.ensures.1 in
+    let first = c.in_ok-counts.ensures d Ts given in
     let i = c.loop-j.invariant in
     let is = means_on first.grows (given_record c.args.clauses.now c.args.slot) (given_cited c.requires.good c.requires.used) given.means in
     let p = i.0 d is in
     let w = p.grows in
     let h = other_holds i.2 w i.1 c.loop-j-test.true in
     let o = (i.6 (given_record c.loop-j.clauses c.loop-j.j) (other_among i.2 w i.1 (omega arith))).1 in
-    let q = c.in-err-counts-2.ensures d (clause_of _ (given_record c.loop-j.clauses c.loop-j.j)) (means_on w (given_record c.args.clauses.now c.args.slot) i.4 is) (means_on w (given_record c.loop-j.clauses c.loop-j.j) o refl) in
+    let q = c.in_err-counts-2.ensures d (clause_of _ (given_record c.loop-j.clauses c.loop-j.j)) (means_on w (given_record c.args.clauses.now c.args.slot) i.4 is) (means_on w (given_record c.loop-j.clauses c.loop-j.j) o refl) in
     rw e.1 (q.0, stuck_then first (pairs_stuck c.requires.good first.grows c.requires.used (below_stuck c.loop-j-test.true h p (stuck_as q.1 (λ m b. inl b)))) (λ m b. inl b) (λ m b. inr b))
 
-pub returns-in-err-counts-3 : goal.returns-in-err-counts-3
-returns-in-err-counts-3 c d Ts given =
-    let e = err_from_is_err_and c.from-residual-in-err-counts-3.result c.from-residual-in-err-counts-3.ensures.1 in
-    let first = c.in-ok-counts.ensures d Ts given in
+pub returns-in_err-counts-3 : goal.returns-in_err-counts-3
+returns-in_err-counts-3 c d Ts given =
+    let e = err_from_is_err_and c.from_residual-in_err-counts-3.result c.from_residual-in_err-counts-3.ensures.1 in
+    let first = c.in_ok-counts.ensures d Ts given in
     let i = c.loop-j.invariant in
     let is = means_on first.grows (given_record c.args.clauses.now c.args.slot) (given_cited c.requires.good c.requires.used) given.means in
     let p = i.0 d is in
     let w = p.grows in
     let h = other_holds i.2 w i.1 c.loop-j-test.true in
     let o = (i.6 (given_record c.loop-j.clauses c.loop-j.j) (other_among i.2 w i.1 (omega arith))).1 in
-    let q = c.in-ok-counts-2.ensures d (clause_of _ (given_record c.loop-j.clauses c.loop-j.j)) (means_on w (given_record c.args.clauses.now c.args.slot) i.4 is) (means_on w (given_record c.loop-j.clauses c.loop-j.j) o refl) in
+    let q = c.in_ok-counts-2.ensures d (clause_of _ (given_record c.loop-j.clauses c.loop-j.j)) (means_on w (given_record c.args.clauses.now c.args.slot) i.4 is) (means_on w (given_record c.loop-j.clauses c.loop-j.j) o refl) in
     let z = grows_then w q.grows in
-    let r = c.in-err-counts-3.ensures (clause_of _ (given_record c.loop-j.clauses c.loop-j.j)) d (means_on z (given_record c.loop-j.clauses c.loop-j.j) o refl) (means_on z (given_record c.args.clauses.now c.args.slot) i.4 is) in
+    let r = c.in_err-counts-3.ensures (clause_of _ (given_record c.loop-j.clauses c.loop-j.j)) d (means_on z (given_record c.loop-j.clauses c.loop-j.j) o refl) (means_on z (given_record c.args.clauses.now c.args.slot) i.4 is) in
     rw e.1 (r.0, stuck_then first (pairs_stuck c.requires.good first.grows c.requires.used (below_stuck c.loop-j-test.true h p (stuck_then q r.1 (λ m b. inl b) (λ m b. inr b)))) (λ m b. inl b) (λ m b. inr b))
 
 pub returns : goal.returns
 returns c d Ts given =
-    let first = c.in-ok-counts.ensures d Ts given in
+    let first = c.in_ok-counts.ensures d Ts given in
     adds_then first (pairs_adds c.requires.good first.grows c.requires.used (below_end (omega arith) (omega arith) (c.loop-j.invariant.0 d (means_on first.grows (given_record c.args.clauses.now c.args.slot) (given_cited c.requires.good c.requires.used) given.means))))
     (λ m o. o) (λ m b. inl b) (λ m b. inr b)

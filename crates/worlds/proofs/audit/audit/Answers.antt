@@ -21,7 +21,7 @@ pub loop-number-preserved : goal.loop-number-preserved
 loop-number-preserved g c =
     let xs = (g.S.Source.meaning c.args.source.now).axioms in
     let w = g.W.World.meaning c.args.world.now in
-    below_more (λ j. Holds w (get_or xs j blank)) c.loop-number.number c.loop-number.invariant (subst (Holds w) c.axiom_in.ensures c.in-default.ensures)
+    below_more (λ j. Holds w (get_or xs j blank)) c.loop-number.number c.loop-number.invariant (subst (Holds w) c.axiom_in.ensures c.in_default.ensures)
 
 pub returns : goal.returns
 returns g c =

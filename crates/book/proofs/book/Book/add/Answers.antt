@@ -13,7 +13,7 @@ returns g c =
     let slots = c.args.self.now.own in
     let own = take c.args.self.now.count slots in
     let a = c.args.axiom in
-    let formed = checked m a c.class_count.result c.role_count.result c.class_count.ensures c.role_count.ensures c.in-ok-check.ensures.0 in
+    let formed = checked m a c.class_count.result c.role_count.result c.class_count.ensures c.role_count.ensures c.in_ok-check.ensures.0 in
     let size = length-take-le c.args.self.now.count slots (omega arith) in
     let grown = take_more_set slots c.args.self.now.count a (omega arith) in
     record {

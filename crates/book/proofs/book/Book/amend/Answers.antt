@@ -16,7 +16,7 @@ returns g c =
     let own = take n slots in
     let i = c.args.number in
     let a = c.args.axiom in
-    let formed = checked m a c.class_count.result c.role_count.result c.class_count.ensures c.role_count.ensures c.in-ok-check.ensures.0 in
+    let formed = checked m a c.class_count.result c.role_count.result c.class_count.ensures c.role_count.ensures c.in_ok-check.ensures.0 in
     let size = length-take-le n slots (omega arith) in
     let changed : take n (set slots i c.rewrite.new.slot) ≡ amended own i a = ap (λ x. take n (set slots i x)) c.rewrite.ensures ∙ take_amended n slots i a in
     record {

@@ -8,8 +8,8 @@ use Rattle.book.proofs.Keeping.{limits_strike}
 use Rattle.book.proofs.Slots.{take_struck}
 use Rattle.book.proofs.book.Book.strike.Goals as goal
 
-pub invariant-of-self : goal.invariant-of-self
-invariant-of-self g c = (omega arith, (search (rules, places), tt))
+pub invariant_of-self : goal.invariant_of-self
+invariant_of-self g c = (omega arith, (search (rules, places), tt))
 
 pub returns : goal.returns
 returns g c =

@@ -21,7 +21,7 @@ loop-i-preserved-in-RoleInclusion c =
     )
 
 pub loop-i-preserved : goal.loop-i-preserved
-loop-i-preserved c = (c.loop-i.invariant.0, tested_other c.args.axioms.now c.loop-i.i c.loop-i.rows (omega arith) (omega arith) c.in-default.not-RoleInclusion c.loop-i.invariant.1)
+loop-i-preserved c = (c.loop-i.invariant.0, tested_other c.args.axioms.now c.loop-i.i c.loop-i.rows (omega arith) (omega arith) c.in_default.not-RoleInclusion c.loop-i.invariant.1)
 
 pub returns : goal.returns
 returns c = tested_shows c.args.axioms.now c.loop-i.rows c.loop-i.invariant.0 c.requires (let z : c.loop-i.i ≡ 0 = omega arith in rw z at c.loop-i.invariant.1)
