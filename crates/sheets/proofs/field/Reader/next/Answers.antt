@@ -11,7 +11,7 @@ returns-then-after-len c =
 pub returns : goal.returns
 returns c =
     let bs = c.args.self.now.rest.now in
-    let len : length c.split_at.result.0.now ≡ c.from-len.result = c.split_at.ensures.front-len in
+    let len : length c.split_at.result.0.now ≡ c.from-len.result = c.split_at.ensures.front_len in
     let long : 3 ≤ length bs = search rules in
     let low : get_or bs 2 0 < 256 = omega arith in
     let size : get_or bs 1 0 * 256 + get_or bs 2 0 ≡ length c.split_at.result.0.now = omega arith in

@@ -10,7 +10,9 @@ new-requires c =
 
 pub invariant_of-self : goal.invariant_of-self
 invariant_of-self c =
-    let fit = c.all_fit.ensures.0 c.if-not-all_fit.false in (
-      (search rules, c.if-classes-gt-MOST_ENTRIES.false, c.if-links-gt-MOST_LINKS.false),
-      (λ i l. All-get_or (Fits (length c.args.classes.now)) c.args.links.now i no_link l fit, (c.new.ensures.last, (c.new.ensures.previous, tt))),
-    )
+    let fit = c.all_fit.ensures.0 c.if-not-all_fit.false in record {
+      sized = (search rules, c.if-classes-gt-MOST_ENTRIES.false, c.if-links-gt-MOST_LINKS.false);
+      fit = λ i l. All-get_or (Fits (length c.args.classes.now)) c.args.links.now i no_link l fit;
+      lasts = c.new.ensures.last;
+      chained = c.new.ensures.previous;
+    }
