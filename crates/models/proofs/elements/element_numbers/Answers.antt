@@ -7,8 +7,8 @@ use Rattle.models.proofs.elements.element_numbers.Goals.{then-live-slot, else-li
 pub loop-slot-init : goal.loop-slot-init
 loop-slot-init c = record { size = length-replicate {A = ℕ} 256 0; next = sym (live_none c.args.live.now); right = λ h l. absurd (omega arith) }
 
-pub overflow-add-count : goal.overflow-add-count
-overflow-add-count c = let low : c.loop-slot.count < 256 = omega (arith, c.loop-slot.invariant.next, live_le c.args.live.now c.loop-slot.slot) in search rules
+pub overflow_add-count : goal.overflow_add-count
+overflow_add-count c = let low : c.loop-slot.count < 256 = omega (arith, c.loop-slot.invariant.next, live_le c.args.live.now c.loop-slot.slot) in search rules
 
 pub loop-slot-preserved : goal.loop-slot-preserved
 loop-slot-preserved c =

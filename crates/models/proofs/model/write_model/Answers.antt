@@ -19,17 +19,17 @@ room c =
     row_room c.live_slots-live.result c.loop-slot.size c.loop-slot.slot c.args.counts.contexts c.from.result
     c.args.roles (length c.args.model.now) c.from.ensures c.loop-slot.invariant.0 c.loop-slot-test.true c.requires.room
 
-pub overflow-mul-start : goal.overflow-mul-start
-overflow-mul-start c = let h = room c in search rules
+pub overflow_mul-start : goal.overflow_mul-start
+overflow_mul-start c = let h = room c in search rules
 
-pub overflow-add-start : goal.overflow-add-start
-overflow-add-start c = let h = room c in search rules
+pub overflow_add-start : goal.overflow_add-start
+overflow_add-start c = let h = room c in search rules
 
 pub offset_bounds-model-start : goal.offset_bounds-model-start
 offset_bounds-model-start c = let h = room c in search rules
 
-pub slice-bounds-write_row-end : goal.slice-bounds-write_row-end
-slice-bounds-write_row-end c = let h = room c in search rules
+pub slice_bounds-write_row-end : goal.slice_bounds-write_row-end
+slice_bounds-write_row-end c = let h = room c in search rules
 
 pub write_row-requires : goal.write_row-requires
 write_row-requires c =
@@ -42,8 +42,8 @@ write_row-requires c =
       numbers = c.element_numbers-numbers.ensures;
     }
 
-pub overflow-add-size : goal.overflow-add-size
-overflow-add-size c =
+pub overflow_add-size : goal.overflow_add-size
+overflow_add-size c =
     let low : c.loop-slot.size < 257 = omega (arith, c.loop-slot.invariant.0, live_le c.live_slots-live.result c.loop-slot.slot, c.requires.ready.few, c.requires.ready.good.contexts_fit) in
     search rules
 

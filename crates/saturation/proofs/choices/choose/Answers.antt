@@ -57,36 +57,36 @@ third-preserved-then-not-is_premise-3 c = (
 pub first-preserved-in-None-highest : goal.first-preserved-in-None-highest
 first-preserved-in-None-highest c = (
   c.first.invariant.0,
-  room_entered _ c.first.invariant.1 c.in_ok-counts.ensures.entered.0.1,
+  room_entered _ c.first.invariant.1 c.in_ok-counts-in-None-highest.ensures.entered.0.1,
   λ xs Ts good cited listed.
       let i = c.first.invariant.2 xs Ts good cited listed in
       below_more (now_held c.first.invariant.0 i _ (omega arith)) i
       (last_adds xs _ c.lone.ensures (c.union-with_first.ensures ∙ ap (join _) c.without.ensures) (c.if-not-is_premise.ensures.0 refl) c.in-None-highest.ensures
-      (c.in_ok-counts.ensures.enters xs i.grows.good (lone_cites _ c.lone.ensures (now_cited c.first.invariant.0 i cited)))),
+      (c.in_ok-counts-in-None-highest.ensures.enters xs i.grows.good (lone_cites _ c.lone.ensures (now_cited c.first.invariant.0 i cited)))),
   omega arith,
 )
 
 pub second-preserved-in-None-highest-2 : goal.second-preserved-in-None-highest-2
 second-preserved-in-None-highest-2 c = (
   c.second.invariant.0,
-  room_entered _ c.second.invariant.1 c.in_ok-counts-2.ensures.entered.0.1,
+  room_entered _ c.second.invariant.1 c.in_ok-counts-in-None-highest-2.ensures.entered.0.1,
   λ xs Ts good cited listed.
       let i = c.second.invariant.2 xs Ts good cited listed in
       below_more (now_held c.second.invariant.0 i _ (omega arith)) i
       (last_adds xs _ c.lone-in-None-highest-2.ensures (c.union-with_second.ensures ∙ ap (join _) c.without-in-second.ensures) (c.if-not-is_premise-2.ensures.0 refl) c.in-None-highest-2.ensures
-      (c.in_ok-counts-2.ensures.enters xs i.grows.good (lone_cites _ c.lone-in-None-highest-2.ensures (now_cited c.second.invariant.0 i cited)))),
+      (c.in_ok-counts-in-None-highest-2.ensures.enters xs i.grows.good (lone_cites _ c.lone-in-None-highest-2.ensures (now_cited c.second.invariant.0 i cited)))),
   omega arith,
 )
 
 pub third-preserved : goal.third-preserved
 third-preserved c = (
   c.third.invariant.0,
-  room_entered _ c.third.invariant.1 c.in_ok-counts-3.ensures.entered.0.1,
+  room_entered _ c.third.invariant.1 c.in_ok-counts.ensures.entered.0.1,
   λ xs Ts good cited listed.
       let i = c.third.invariant.2 xs Ts good cited listed in
       below_more (now_held c.third.invariant.0 i _ (omega arith)) i
       (last_adds xs _ c.lone-in-third.ensures (c.union-with_third.ensures ∙ ap (join _) c.without-in-third.ensures) (c.if-not-is_premise-3.ensures.0 refl) refl
-      (c.in_ok-counts-3.ensures.enters xs i.grows.good (lone_cites _ c.lone-in-third.ensures (now_cited c.third.invariant.0 i cited)))),
+      (c.in_ok-counts.ensures.enters xs i.grows.good (lone_cites _ c.lone-in-third.ensures (now_cited c.third.invariant.0 i cited)))),
   omega arith,
 )
 
@@ -116,11 +116,11 @@ first-preserved c = (
   omega arith,
 )
 
-pub returns-in_err-counts : goal.returns-in_err-counts
-returns-in_err-counts c xs Ts good cited listed =
+pub returns-in_err-counts-in-None-highest : goal.returns-in_err-counts-in-None-highest
+returns-in_err-counts-in-None-highest c xs Ts good cited listed =
     let p = err_from_is_err_and c.from_residual.result c.from_residual.ensures.1 in
     let i = c.first.invariant.2 xs Ts good cited listed in
-    let q = c.in_err-counts.ensures.enters xs i.grows.good (lone_cites _ c.lone.ensures (now_cited c.first.invariant.0 i cited)) in
+    let q = c.in_err-counts-in-None-highest.ensures.enters xs i.grows.good (lone_cites _ c.lone.ensures (now_cited c.first.invariant.0 i cited)) in
     rw p.1 (
       q.0,
       whole_stuck listed c.in-Some.ensures.0 c.without-others.ensures
@@ -128,14 +128,14 @@ returns-in_err-counts c xs Ts good cited listed =
           (last_stuck xs _ c.lone.ensures (c.union-with_first.ensures ∙ ap (join _) c.without.ensures) (c.if-not-is_premise.ensures.0 refl) c.in-None-highest.ensures q.1)),
     )
 
-pub returns-in_err-counts-2 : goal.returns-in_err-counts-2
-returns-in_err-counts-2 c xs Ts good cited listed =
-    let p = err_from_is_err_and c.from_residual-in_err-counts-2.result c.from_residual-in_err-counts-2.ensures.1 in
+pub returns-in_err-counts-in-None-highest-2 : goal.returns-in_err-counts-in-None-highest-2
+returns-in_err-counts-in-None-highest-2 c xs Ts good cited listed =
+    let p = err_from_is_err_and c.from_residual-in_err-counts-in-None-highest-2.result c.from_residual-in_err-counts-in-None-highest-2.ensures.1 in
     let i = c.first.invariant.2 xs Ts good cited listed in
     let known = now_listed c.first.invariant.0 i listed in
     let there = now_cited c.first.invariant.0 i cited in
     let j = c.second.invariant.2 xs Ts i.grows.good there known in
-    let q = c.in_err-counts-2.ensures.enters xs j.grows.good (lone_cites _ c.lone-in-None-highest-2.ensures (now_cited c.second.invariant.0 j there)) in
+    let q = c.in_err-counts-in-None-highest-2.ensures.enters xs j.grows.good (lone_cites _ c.lone-in-None-highest-2.ensures (now_cited c.second.invariant.0 j there)) in
     rw p.1 (
       q.0,
       whole_stuck listed c.in-Some.ensures.0 c.without-others.ensures
@@ -145,16 +145,16 @@ returns-in_err-counts-2 c xs Ts good cited listed =
           (last_stuck xs _ c.lone-in-None-highest-2.ensures (c.union-with_second.ensures ∙ ap (join _) c.without-in-second.ensures) (c.if-not-is_premise-2.ensures.0 refl) c.in-None-highest-2.ensures q.1)))),
     )
 
-pub returns-in_err-counts-3 : goal.returns-in_err-counts-3
-returns-in_err-counts-3 c xs Ts good cited listed =
-    let p = err_from_is_err_and c.from_residual-in_err-counts-3.result c.from_residual-in_err-counts-3.ensures.1 in
+pub returns-in_err-counts : goal.returns-in_err-counts
+returns-in_err-counts c xs Ts good cited listed =
+    let p = err_from_is_err_and c.from_residual-in_err-counts.result c.from_residual-in_err-counts.ensures.1 in
     let i = c.first.invariant.2 xs Ts good cited listed in
     let known = now_listed c.first.invariant.0 i listed in
     let there = now_cited c.first.invariant.0 i cited in
     let j = c.second.invariant.2 xs Ts i.grows.good there known in
     let then = now_listed c.second.invariant.0 j known in
     let k = c.third.invariant.2 xs Ts j.grows.good (now_cited c.second.invariant.0 j there) then in
-    let q = c.in_err-counts-3.ensures.enters xs k.grows.good (lone_cites _ c.lone-in-third.ensures (now_cited c.third.invariant.0 k (now_cited c.second.invariant.0 j there))) in
+    let q = c.in_err-counts.ensures.enters xs k.grows.good (lone_cites _ c.lone-in-third.ensures (now_cited c.third.invariant.0 k (now_cited c.second.invariant.0 j there))) in
     rw p.1 (
       q.0,
       whole_stuck listed c.in-Some.ensures.0 c.without-others.ensures

@@ -9,7 +9,7 @@ use Rattle.book.proofs.Slots.{take_struck}
 use Rattle.book.proofs.book.Book.strike.Goals as goal
 
 pub invariant_of-self : goal.invariant_of-self
-invariant_of-self g c = (omega arith, (search (rules, places), tt))
+invariant_of-self g c = record { few = omega arith; whole = search (rules, places) }
 
 pub returns : goal.returns
 returns g c =
