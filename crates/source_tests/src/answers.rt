@@ -5,6 +5,7 @@ use crate::writing::*;
 use sheets::Sheet;
 use sources::Source;
 use std::process::Abort;
+use std::test::Fail;
 use terms::Layer;
 
 /// What a refusal past the end of a sheet is.

@@ -2,6 +2,7 @@
 use crate::writing::*;
 use sheets::Sheet;
 use sources::{RecordTable, find_class};
+use std::test::Fail;
 
 #[test]
 fn on_a_sheet(rt: HostRuntime) -> Result<(), Fail> {

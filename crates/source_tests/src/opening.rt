@@ -2,6 +2,7 @@
 use crate::writing::*;
 use sheets::Sheet;
 use sources::Source;
+use std::test::Fail;
 use terms::Axiom;
 
 #[test]

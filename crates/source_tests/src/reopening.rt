@@ -4,6 +4,7 @@ use sheets::Sheet;
 use sources::Source;
 use std::alloc::{AllocError, Global};
 use std::process::Abort;
+use std::test::Fail;
 
 /// The payroll sheet with two roles and an axiom more.
 fn payroll_with_roles(heap: Global) -> Result<Vec<u8>, AllocError> {

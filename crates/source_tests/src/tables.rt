@@ -1,6 +1,7 @@
 //! Record tables: what opens, what is refused, and what they answer.
 use crate::writing::*;
 use sources::{RecordTable, Source};
+use std::test::Fail;
 use terms::{Axiom, Layer};
 
 /// A refusal in the layer of record tables.

@@ -2,6 +2,7 @@
 use crate::showing::*;
 use std::alloc::{AllocError, Global};
 use std::process::Abort;
+use std::test::Fail;
 use terms::{Axiom, ClassSet, Fault};
 use worlds::world::World;
 use worlds::{EntryTable, Finding, Link, ModelTable};
@@ -124,30 +125,44 @@ fn agree<V: World, W: World>(
     axioms: &[Axiom],
     one: &V,
     other: &W,
+    number: u64,
 ) -> Result<(), Fail> {
     for start in 0..axioms.len() {
         let list = &axioms[start..axioms.len()];
         let wanted = plain(list, one)?;
-        assert_eq!(rt; plain(list, other)?, wanted);
-        assert_eq!(rt; found(list, one)?, wanted, "one, from {start}");
-        assert_eq!(rt; found(list, other)?, wanted, "other, from {start}");
+        assert_eq!(rt;
+            plain(list, other)?,
+            wanted,
+            "plain, world {number}, from {start}"
+        );
+        assert_eq!(rt;
+            found(list, one)?,
+            wanted,
+            "one, world {number}, from {start}"
+        );
+        assert_eq!(rt;
+            found(list, other)?,
+            wanted,
+            "other, world {number}, from {start}"
+        );
     }
     Ok(())
 }
 
-/// The three elements in rows of two roles and the entries with links agree.
+/// The three elements in rows of two roles and the entries with links agree; `number` tells the world in messages.
 fn kinds_agree<'x>(
     rt: &impl Abort,
     axioms: &[Axiom],
     words: &[u64],
     classes: &'x [u64],
     links: &'x [Link],
+    number: u64,
 ) -> Result<(), Fail> {
     let mut model = ModelTable::new();
     model.open(words, 2, 3)?;
     let mut entries = EntryTable::new();
     entries.open(classes, links)?;
-    agree(rt, axioms, &model, &entries)
+    agree(rt, axioms, &model, &entries, number)
 }
 
 /// Worlds of three elements, with classes and links by chance.
@@ -169,8 +184,8 @@ fn every_small_axiom(rt: HostRuntime) -> Result<(), Fail> {
             words.as_slice(),
             &classes,
             links.as_slice(),
-        )
-        .note(format_args!("world {bits}"))?;
+            bits,
+        )?;
     }
     Ok(())
 }

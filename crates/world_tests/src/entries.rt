@@ -2,6 +2,7 @@
 use crate::showing::*;
 use std::alloc::{AllocError, Global};
 use std::process::Abort;
+use std::test::Fail;
 use terms::Layer;
 use worlds::{EntryTable, Finding, Link};
 

@@ -1,5 +1,6 @@
 //! Each form of axiom obeyed and broken, on both kinds of world, and which axiom and element an audit names.
 use crate::showing::*;
+use std::test::Fail;
 use worlds::Finding;
 
 /// Payroll is in finance or wages, and both of these are in shared.

@@ -1,6 +1,7 @@
 //! One link among very many that breaks an axiom.
 use crate::showing::*;
 use std::alloc::{AllocError, Global};
+use std::test::Fail;
 use worlds::{Finding, Link};
 
 /// Entry 9 is in class 2, entry 4,095 in class 0, and each other of 4,096 entries in class 1.

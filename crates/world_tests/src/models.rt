@@ -2,6 +2,7 @@
 use crate::showing::*;
 use std::alloc::{AllocError, Global};
 use std::process::Abort;
+use std::test::Fail;
 use terms::{Fault, Layer};
 use worlds::world::World;
 use worlds::{Finding, Link, ModelTable};

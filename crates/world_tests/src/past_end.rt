@@ -1,6 +1,7 @@
 //! What both kinds of world answer at their last numbers and past them.
 use crate::showing::*;
 use std::process::Abort;
+use std::test::Fail;
 use worlds::world::World;
 use worlds::{EntryTable, Link, ModelTable};
 
@@ -81,6 +82,6 @@ fn both_kinds_end_alike(rt: HostRuntime) -> Result<(), Fail> {
     let words = rows(rt.alloc(), 16, &classes, &links)?;
     let mut model = ModelTable::new();
     model.open(words.as_slice(), 16, 65)?;
-    ends(&rt, &model).note("a model table")?;
-    entries_end(&rt, &classes, &links).note("an entry table")
+    ends(&rt, &model)?;
+    entries_end(&rt, &classes, &links)
 }

@@ -1,6 +1,7 @@
 //! Worlds that are opened again: each shows the new world, or refuses it and stays as it was.
 use crate::showing::*;
 use std::process::Abort;
+use std::test::Fail;
 use worlds::world::World;
 use worlds::{EntryTable, Finding, Link, ModelTable};
 
@@ -35,9 +36,9 @@ fn is_pair<W: World>(rt: &impl Abort, world: &W) -> Result<(), Fail> {
 #[test]
 fn new_worlds(rt: HostRuntime) -> Result<(), Fail> {
     let model = ModelTable::new();
-    is_blank(&rt, &model).note("a model table")?;
+    is_blank(&rt, &model)?;
     let entries = EntryTable::new();
-    is_blank(&rt, &entries).note("an entry table")
+    is_blank(&rt, &entries)
 }
 
 #[test]
@@ -58,8 +59,12 @@ fn model_tables(rt: HostRuntime) -> Result<(), Fail> {
         (u32::MAX, u32::MAX, 11),
     ];
     for (roles, size, number) in refusals {
-        assert_eq!(rt; refusal(world.open(&other, roles, size)), refused(number));
-        is_pair(&rt, &world).note(format_args!("after {roles} roles, {size} elements"))?;
+        assert_eq!(rt;
+            refusal(world.open(&other, roles, size)),
+            refused(number),
+            "{roles} roles, {size} elements"
+        );
+        is_pair(&rt, &world)?;
     }
     world.open(&other, 0, 3)?;
     assert!(rt; shows(&world, &[0, 1, 2], &[u64::MAX; 3], &[]));
