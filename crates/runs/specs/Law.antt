@@ -44,11 +44,11 @@ own_after own (c ∷ cs) [] = own
 own_after own (c ∷ cs) (h ∷ hs) = own_after (later_of own c h) cs hs
 
 -- the own list, and the axioms standing, when call i is made
-abbrev pub field_own : List Axiom → List Call → List Heard → ℕ → List Axiom
-field_own own cs hs i = own_after own (take i cs) (take i hs)
+abbrev pub own_at : List Axiom → List Call → List Heard → ℕ → List Axiom
+own_at own cs hs i = own_after own (take i cs) (take i hs)
 
 abbrev pub standing_at : Meaning → List Axiom → List Call → List Heard → ℕ → List Axiom
-standing_at m own cs hs i = standing m (field_own own cs hs i)
+standing_at m own cs hs i = standing m (own_at own cs hs i)
 
 -- ---- the law
 
@@ -66,7 +66,7 @@ pub data Audits : Call → Of.World → Type 0 where
 -- of a run on a book over a source that means m, with the own list given at first
 pub record Lawful (m : Meaning) (l : Lent) (own : List Axiom) (cs : List Call) (hs : List Heard) : Type 0 where
   -- each call is answered as the plain book answers it
-  pub plain : (i : ℕ) (c : Call) (h : Heard) → At cs hs i c h → Answered m l (field_own own cs hs i) c h (field_own own cs hs (suc i))
+  pub plain : (i : ℕ) (c : Call) (h : Heard) → At cs hs i c h → Answered m l (own_at own cs hs i) c h (own_at own cs hs (suc i))
   -- an ask that is answered says none exactly where no world obeys the axioms standing and has such an element, and some exactly where one does
   pub verdicts : (i : ℕ) (P N : ClassSet) (k j : ℕ) (words : Option ℕ) (a : Answer) → At cs hs i (call.Ask P N k j words) (heard.Asked (Ok a)) → Says (verdict_of a) (standing_at m own cs hs i) P.bits N.bits
   -- after a none, no audit passes a world with such an element while the same axioms stand
@@ -80,7 +80,7 @@ pub record Lawful (m : Meaning) (l : Lent) (own : List Axiom) (cs : List Call) (
 
 -- where the last call is an ask with a model table, what that table shows at the end
 abbrev pub LastShown : Meaning → List Axiom → List Call → List Heard → List ℕ → Type 0
-LastShown m own cs hs model = (i : ℕ) (c : Call) (h : Heard) → suc i ≡ length cs → At cs hs i c h → ShownBy (book_meaning m (field_own own cs hs i)) c h model
+LastShown m own cs hs model = (i : ℕ) (c : Call) (h : Heard) → suc i ≡ length cs → At cs hs i c h → ShownBy (book_meaning m (own_at own cs hs i)) c h model
 
 -- the plain book leaves no answer open, but for the number of elements, and runs can be put end to end
 abbrev pub Joined : Type 0

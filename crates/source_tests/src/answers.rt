@@ -80,11 +80,11 @@ fn class_names_past_the_end(rt: HostRuntime) -> Result<(), Fail> {
 fn role_names(rt: HostRuntime) -> Result<(), Fail> {
     let mut sheet = Sheet::new();
     sheet.open(&[2, 0, 2, 0x70, 0x71, 1, 0, 1, 0x41, 2, 0, 1, 0x72])?;
-    assert_eq!(rt; sheet.role_name(0), Some(b"pq".as_slice()));
-    assert_eq!(rt; sheet.role_name(1), Some(b"r".as_slice()));
+    assert!(rt; is_named(sheet.role_name(0), b"pq"));
+    assert!(rt; is_named(sheet.role_name(1), b"r"));
     assert_eq!(rt; sheet.role_name(2), None);
     assert_eq!(rt; sheet.role_name(255), None);
-    assert_eq!(rt; sheet.class_name(0), Some(b"A".as_slice()));
+    assert!(rt; is_named(sheet.class_name(0), b"A"));
     assert_eq!(rt; sheet.class_name(1), None);
     Ok(())
 }

@@ -128,3 +128,11 @@ fn same_name<S: Source, T: Source>(one: &S, other: &T, class: u8) -> bool {
     }
     true
 }
+
+/// Whether a name was found, and is just this one.
+pub fn is_named(found: Option<&[u8]>, wanted: &[u8]) -> bool {
+    match found {
+        Some(name) => name == wanted,
+        None => false,
+    }
+}
