@@ -12,7 +12,7 @@ pub hear-requires : goal.hear-requires
 hear-requires g c =
     let e = c.serve-answer.ensures in
     let s = shown_after _ _ _ _ _ _ c.serve-answer.new.model e.plain e.shown in
-    ((refl, tt), subst (λ x. ShownBy (book_meaning (g.S.Source.meaning x) (own_of c.serve-answer.new.book)) c.call-call.result c.serve-answer.result c.serve-answer.new.model) (sym e.over) s)
+    λ k. ((refl, tt), subst (λ x. ShownBy (book_meaning (g.S.Source.meaning x) (own_of c.serve-answer.new.book)) c.call-call.result c.serve-answer.result c.serve-answer.new.model) (sym e.over) s)
 
 pub bounds-calls-i : goal.bounds-calls-i
 bounds-calls-i g c = let a = c.loop-i-test.true in let b = c.min-count.ensures in let d = c.loop-i.auto.calls in omega (arith, a, b, d)
