@@ -1,5 +1,5 @@
 -- A call of the plain book has one outcome.
-use Rattle.std.proofs.Common.{◌≡◌, ℕ, List, sym, refl, ap, ◌∙◌}
+use Rattle.std.proofs.Common.{◌≡◌, List, sym, refl, ap, ◌∙◌}
 use Rattle.terms.specs.declared.axioms.Axiom.{Axiom}
 use Rattle.terms.specs.Refusals.{Told, done, refused, Checks, Answers}
 use Rattle.terms.proofs.Checking.{first_not_passed, first_one}

@@ -1,5 +1,5 @@
 -- One pair: what its ask tells is told of the pair.
-use Rattle.std.proofs.Common.{◌≡◌, ℕ, ◌+◌, ◌*◌, ◌<◌, ◌≤◌, Bool, true, false, ◌⊎◌, List, length, Option, sym, refl, ap, ◌∙◌, subst, inl, inr, arith}
+use Rattle.std.proofs.Common.{◌≡◌, ℕ, ◌+◌, ◌*◌, ◌<◌, ◌≤◌, Bool, true, false, List, length, Option, sym, subst, inl, inr, arith}
 use Rattle.terms.specs.Sets.{has, only, Below}
 use Rattle.terms.specs.Refusals.{number, Told, done, refused, FirstFailing}
 use Rattle.terms.specs.declared.class_set.ClassSet.{ClassSet}

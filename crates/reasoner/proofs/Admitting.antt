@@ -1,15 +1,13 @@
 -- The checks of an ask, those before the closure and the one after.
-use Rattle.std.proofs.Common.{◌≡◌, ℕ, ◌*◌, ◌<◌, ◌≤◌, ◌⊎◌, List, [], ◌∷◌, length, sym, refl, ap, ◌∙◌, subst, inl, inr, ⊎_elim, arith}
+use Rattle.std.proofs.Common.{◌≡◌, ℕ, ◌≤◌, List, [], ◌∷◌, subst, inl, inr, arith}
 use Rattle.std.specs.List.{AllByRecursion as All}
 use Rattle.terms.specs.Sets.{Below}
-use Rattle.terms.specs.Axioms.{Declared, Narrow, WellFormed}
-use Rattle.terms.specs.Refusals.{Told, done, refused, Checks, end, check, Passes, FirstFailing, Answers, number}
+use Rattle.terms.specs.Axioms.{Declared, WellFormed}
+use Rattle.terms.specs.Refusals.{Told, done, refused, end, check, Passes, FirstFailing, Answers}
 use Rattle.terms.specs.declared.class_set.ClassSet.{ClassSet}
 use Rattle.terms.specs.declared.axioms.Axiom.{Axiom}
 use Rattle.terms.specs.declared.axioms.Axiom.TheVariants.{Inclusion, Exists, ExistsLower, Forall, RoleInclusion}
-use Rattle.terms.specs.declared.refusals.Fault.{Fault}
 use Rattle.sources.specs.Meanings.{Meaning}
-use Rattle.closure.specs.Closures.{Context}
 use Rattle.tables.specs.declared.records.ContextRecord.{ContextRecord}
 use Rattle.tables.specs.declared.records.ClauseRecord.{ClauseRecord}
 use Rattle.reasoner.specs.Asks.{in_ask, goal_of, FitsInto, admit_checks, ask_checks, Right, Unshown, Numbered, TablesAfter}

@@ -1,16 +1,15 @@
 -- Tables that were filled with the closure, or got full: what an ask may tell of them.
-use Rattle.std.proofs.Common.{◌≡◌, ℕ, zero, ◌<◌, ◌≤◌, ◌⊎◌, ◌↔◌, List, length, get_or, take, Some, None, Option, sym, refl, ap, ◌∙◌, subst, inl, inr, ⊎_elim, arith}
-use mathlib.Core.List.{Memᴰ}
+use Rattle.std.proofs.Common.{◌≡◌, ℕ, zero, ◌<◌, ◌≤◌, ◌⊎◌, List, length, get_or, take, Option, sym, refl, ap, ◌∙◌, subst, ⊎_elim, arith}
 use Rattle.std.proofs.lemmas.List.{ext_get_or, get_or-take, length-take-le}
 use Rattle.terms.specs.Axioms.{blank}
 use Rattle.terms.specs.declared.class_set.ClassSet.{ClassSet}
 use Rattle.terms.specs.declared.axioms.Axiom.{Axiom}
-use Rattle.closure.specs.Closures.{Context, plain, Clause, clause, rising, InContexts, InClauses, Refuted, none, some}
-use Rattle.closure.specs.Counts.{Lists, More}
+use Rattle.closure.specs.Closures.{Context, plain, Clause, clause, rising, InContexts, InClauses, Refuted}
+use Rattle.closure.specs.Counts.{Lists}
 use Rattle.closure.specs.Verdicts.{Tabled}
 use Rattle.closure.proofs.Judgement.{verdict_right}
 use Rattle.tables.specs.Entering.{Among}
-use Rattle.tables.specs.Tables.{Tables, tables, Member, a_context, a_clause, context_in, part_of, clause_of, InClosure, In, contexts_of, clauses_of, Good}
+use Rattle.tables.specs.Tables.{Tables, tables, Member, a_context, a_clause, context_in, InClosure, In, contexts_of, clauses_of}
 use Rattle.tables.specs.Adding.{Adds, Stuck}
 use Rattle.tables.specs.declared.records.ContextRecord.{ContextRecord}
 use Rattle.tables.specs.declared.records.ClauseRecord.{ClauseRecord}
@@ -21,7 +20,6 @@ use Rattle.tables.proofs.Counting.{contexts_listed, clauses_listed, contexts_dis
 use Rattle.saturation.specs.Choices.{lone}
 use Rattle.saturation.proofs.Tops.{plain_none}
 use Rattle.reasoner.specs.Asks.{goal_of, FitsInto, Right, unused, Filled, Begun}
-use Rattle.reasoner.specs.declared.answer.Answer.{Answer}
 use Rattle.reasoner.specs.declared.answer.Answer.TheVariants.{Nothing, Something}
 
 -- a list whose leading slots hold another

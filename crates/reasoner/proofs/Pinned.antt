@@ -1,14 +1,12 @@
 -- What an ask tells is one, but for the number of elements.
-use Rattle.std.proofs.Common.{◌≡◌, ℕ, ◌⊎◌, List, sym, refl, ap, ◌∙◌, inl, inr, arith}
-use Rattle.terms.specs.Refusals.{Told, done, refused, Answers}
+use Rattle.std.proofs.Common.{◌≡◌, List, sym, refl, ◌∙◌}
+use Rattle.terms.specs.Refusals.{done, refused}
 use Rattle.terms.specs.declared.class_set.ClassSet.{ClassSet}
 use Rattle.terms.specs.declared.axioms.Axiom.{Axiom}
 use Rattle.terms.proofs.Checking.{first_not_passed, first_one}
-use Rattle.sources.specs.Meanings.{Meaning}
 use Rattle.closure.specs.Closures.{Context, rising, InContexts, InClauses, Verdict, none, some, Judges}
 use Rattle.closure.proofs.Counting.{count_right}
-use Rattle.tables.specs.declared.members.Counts.{Counts}
-use Rattle.reasoner.specs.Asks.{in_ask, goal_of, ask_checks, verdict_of, counts_of, Right, RoomOf, Same, OneAnswer}
+use Rattle.reasoner.specs.Asks.{goal_of, ask_checks, verdict_of, counts_of, Right, RoomOf, OneAnswer}
 use Rattle.reasoner.specs.declared.answer.Answer.{Answer}
 
 verdict_one : (axs : List Axiom) (G : Context) (v w : Verdict) → Judges v rising axs G → Judges w rising axs G → v ≡ w

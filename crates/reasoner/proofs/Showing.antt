@@ -1,6 +1,5 @@
 -- The world that filled tables show.
-use Rattle.std.proofs.Common.{◌≡◌, ℕ, zero, ◌*◌, ◌<◌, ◌≤◌, ◌⊎◌, List, length, get_or, Some, None, Option, sym, refl, ap, ◌∙◌, subst, inl, inr, mul-le-mul_right, arith}
-use mathlib.Core.List.{Memᴰ}
+use Rattle.std.proofs.Common.{◌≡◌, ℕ, zero, ◌*◌, ◌≤◌, List, length, Some, None, Option, sym, refl, ◌∙◌, subst, mul-le-mul_right, arith}
 use Rattle.std.specs.List.{AllByRecursion as All}
 use Rattle.terms.specs.Sets.{Below}
 use Rattle.terms.specs.Axioms.{WellFormed}
@@ -8,8 +7,8 @@ use Rattle.terms.specs.declared.class_set.ClassSet.{ClassSet}
 use Rattle.terms.specs.declared.axioms.Axiom.{Axiom}
 use Rattle.sources.specs.Meanings.{Meaning}
 use Rattle.worlds.specs.Worlds.{Obeys}
-use Rattle.worlds.specs.Models.{row_width, model_world}
-use Rattle.closure.specs.Closures.{Context, plain, toward, Clause, clause, rising, InClauses, Refuted}
+use Rattle.worlds.specs.Models.{model_world}
+use Rattle.closure.specs.Closures.{plain, clause, rising, InClauses, Refuted}
 use Rattle.closure.specs.Soundness.{Fits}
 use Rattle.closure.proofs.Tables.{tabled_closed}
 use Rattle.closure.proofs.Obedience.{canonical_obeys}
@@ -19,8 +18,7 @@ use Rattle.tables.specs.declared.records.ContextRecord.{ContextRecord}
 use Rattle.tables.specs.declared.records.RolePart.{RolePart}
 use Rattle.tables.specs.declared.records.ClauseRecord.{ClauseRecord}
 use Rattle.tables.specs.declared.members.Counts.{Counts}
-use Rattle.tables.specs.Entering.{Among}
-use Rattle.tables.specs.Tables.{Tables, tables, context_in, part_of, clause_of, a_clause, contexts_of, clauses_of}
+use Rattle.tables.specs.Tables.{Tables, tables, context_in, part_of, clause_of, contexts_of, clauses_of}
 use Rattle.tables.proofs.Counting.{clauses_listed}
 use Rattle.roles.specs.Reaching.{Shows}
 use Rattle.roles.proofs.Rows.{formed_included}

@@ -1,5 +1,5 @@
 -- The names of a set, one class at a time.
-use Rattle.std.proofs.Common.{◌≡◌, ℕ, suc, ◌+◌, true, false, cond, List, [], ◌++◌, sym, ap, ◌∙◌, subst, append-nil, add-one, arith}
+use Rattle.std.proofs.Common.{◌≡◌, ℕ, ◌+◌, false, cond, List, [], ◌++◌, sym, ap, ◌∙◌, append-nil, add-one, arith}
 use Rattle.std.proofs.lemmas.Bool.{cond-true, cond-false}
 use Rattle.terms.specs.Sets.{has, Has, count_below}
 use Rattle.sheets.specs.Sheets.{Contents}

@@ -1,5 +1,5 @@
 -- How an axiom reads as a line of text.
-use Rattle.std.specs.Prelude.{◌≡◌, ℕ, zero, suc, cond, List, [], ◌∷◌, ◌++◌, codes, ◌==◌, slice_index_or}
+use Rattle.std.specs.Prelude.{◌≡◌, ℕ, zero, suc, cond, List, [], ◌++◌, codes, ◌==◌, slice_index_or}
 use Rattle.terms.specs.Sets.{has, count_below}
 use Rattle.terms.specs.declared.axioms.Axiom.{Axiom}
 use Rattle.terms.specs.declared.axioms.Axiom.TheVariants.{Inclusion, Exists, ExistsLower, Forall, RoleInclusion}

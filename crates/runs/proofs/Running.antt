@@ -1,6 +1,6 @@
 -- The law, of every run: by going from its end to its beginning.
-use Rattle.std.proofs.Common.{◌≡◌, ℕ, zero, suc, ◌+◌, ◌<◌, ◌≤◌, min, ◌⊎◌, ◌↔◌, List, [], ◌∷◌, ◌++◌, length, get_or, take, set, Ok, Err, Option, Result, sym, refl, ap, ◌∙◌, subst, inl, inr, ⊎_elim, append_assoc, append-nil, arith, length-append, take_all}
-use lib.Seq.{take-append-le, take-append_seam, get_or_at}
+use Rattle.std.proofs.Common.{◌≡◌, ℕ, suc, ◌+◌, ◌<◌, ◌≤◌, min, ◌⊎◌, ◌↔◌, List, [], ◌∷◌, ◌++◌, length, get_or, take, set, Ok, Err, Option, Result, sym, refl, ap, ◌∙◌, subst, inl, inr, ⊎_elim, append_assoc, append-nil, arith, length-append, take_all}
+use lib.Seq.{take-append-le, take-append_seam}
 use Rattle.std.proofs.lemmas.List.{take_more, take_more_set, get_or_append_left, get_or-append-add}
 use Rattle.std.proofs.lemmas.Bool.{cases_lt}
 use Rattle.terms.specs.Refusals.{Told, done, refused, told, Passes, FirstFailing, Answers}
@@ -8,8 +8,6 @@ use Rattle.terms.specs.declared.class_set.ClassSet.{ClassSet}
 use Rattle.terms.specs.declared.axioms.Axiom.{Axiom}
 use Rattle.terms.specs.declared.refusals.Fault.{Fault}
 use Rattle.sources.specs.Meanings.{Meaning}
-use Rattle.tables.specs.declared.records.ContextRecord.{ContextRecord}
-use Rattle.tables.specs.declared.records.ClauseRecord.{ClauseRecord}
 use Rattle.worlds.specs.Worlds as Of
 use Rattle.worlds.specs.Worlds.{Obeys, Possible}
 use Rattle.worlds.specs.declared.audit.Finding.TheVariants as finding
@@ -20,8 +18,8 @@ use Rattle.runs.specs.declared.calls.Call.{Call}
 use Rattle.runs.specs.declared.calls.Call.TheVariants as call
 use Rattle.runs.specs.declared.calls.Heard.{Heard}
 use Rattle.runs.specs.declared.calls.Heard.TheVariants as heard
-use Rattle.runs.specs.Calls.{Lent, lent, words_of, PlainAsk, Answered, strikes, adds, amends, asks, audits_model, audits_entries, Run, no_calls, one_more, ShownBy}
-use Rattle.runs.specs.Law.{changed_by, later_of, own_after, own_at, At, Audits, a_model, entries, Lawful, LastShown}
+use Rattle.runs.specs.Calls.{Lent, words_of, PlainAsk, Answered, strikes, adds, amends, asks, audits_model, audits_entries, Run, no_calls, one_more, ShownBy}
+use Rattle.runs.specs.Law.{later_of, own_after, own_at, At, Audits, a_model, entries, Lawful, LastShown}
 
 -- one more call in the lists that a loop fills
 pub run_more : (m n : Meaning) (l : Lent) (own later last : List Axiom) (calls : List Call) (heard : List Heard) (i : ℕ) (d : Call) (h : Heard)

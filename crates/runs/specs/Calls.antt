@@ -1,12 +1,11 @@
 -- The plain book: what it tells of each call, fed with what the call brings, and its own list after it.
-use Rattle.std.specs.Prelude.{◌≡◌, ℕ, ◌<◌, min, List, [], ◌∷◌, ◌++◌, length, take, Some, None, Ok, Err, Option, Result}
+use Rattle.std.specs.Prelude.{ℕ, ◌<◌, min, List, [], ◌∷◌, ◌++◌, length, take, Some, None, Ok, Err, Option, Result}
 use Rattle.std.specs.Borrow.{Bor}
 use Rattle.terms.specs.Refusals.{Told, told, Answers}
 use Rattle.terms.specs.declared.class_set.ClassSet.{ClassSet}
 use Rattle.terms.specs.declared.axioms.Axiom.{Axiom}
 use Rattle.terms.specs.declared.refusals.Fault.{Fault}
 use Rattle.sources.specs.Meanings.{Meaning}
-use Rattle.worlds.specs.Worlds as Of
 use Rattle.worlds.specs.Worlds.{InAll, InNone, Obeys}
 use Rattle.worlds.specs.Models.{model_world, model_checks}
 use Rattle.worlds.specs.Entries.{entry_world, entry_checks}
@@ -18,7 +17,7 @@ use Rattle.tables.specs.declared.records.ClauseRecord.{ClauseRecord}
 use Rattle.reasoner.specs.Asks.{in_ask, ask_checks, RoomOf, Right, Unshown, Numbered}
 use Rattle.reasoner.specs.declared.answer.Answer.{Answer}
 use Rattle.reasoner.specs.declared.answer.Answer.TheVariants.{Nothing, Something}
-use Rattle.book.specs.Books.{standing, book_meaning, added, amended, struck, PlainAdd, PlainAmend, PlainStrike}
+use Rattle.book.specs.Books.{standing, book_meaning, PlainAdd, PlainAmend, PlainStrike}
 use Rattle.runs.specs.declared.calls.Call.{Call}
 use Rattle.runs.specs.declared.calls.Call.TheVariants as call
 use Rattle.runs.specs.declared.calls.Heard.{Heard}

@@ -12,7 +12,7 @@ use Rattle.worlds.specs.Entries.{entry_world}
 use Rattle.worlds.specs.declared.audit.Finding.TheVariants as finding
 use Rattle.reasoner.specs.Asks.{in_ask, goal_of, FitsInto, admit_checks, RoomOf, verdict_of, Says}
 use Rattle.reasoner.specs.declared.answer.Answer.{Answer}
-use Rattle.reasoner.specs.declared.answer.Answer.TheVariants.{Nothing, Something}
+use Rattle.reasoner.specs.declared.answer.Answer.TheVariants.{Nothing}
 use Rattle.book.specs.Books.{standing, book_meaning, added, amended, struck}
 use Rattle.runs.specs.declared.calls.Call.{Call}
 use Rattle.runs.specs.declared.calls.Call.TheVariants as call

@@ -6,7 +6,7 @@ use Rattle.terms.specs.Sets.{Has}
 use Rattle.terms.specs.declared.axioms.Axiom.{Axiom}
 use Rattle.terms.specs.declared.axioms.Axiom.TheVariants.{Inclusion, Exists, ExistsLower, Forall, RoleInclusion}
 use Rattle.terms.proofs.Masks.{zero_none}
-use Rattle.closure.specs.Closures.{context, plain, toward, Clause, clause, Context}
+use Rattle.closure.specs.Closures.{plain, toward, Clause, clause, Context}
 use Rattle.tables.specs.Entering.{Holds, Among}
 use Rattle.tables.specs.Tables.{Tables, tables, Member, a_clause, context_in, part_of, clause_of, PartCites, Cites, Good}
 use Rattle.tables.specs.Adding.{Adds, Enters, Below}

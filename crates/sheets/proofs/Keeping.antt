@@ -1,12 +1,12 @@
 -- A sheet that opens keeps the limits of a source.
-use Rattle.std.proofs.Common.{◌≡◌, ℕ, ◌+◌, ◌<◌, ◌≤◌, List, [], ◌∷◌, ◌++◌, length, sym, ap, ◌∙◌, subst, arith, length-append}
+use Rattle.std.proofs.Common.{ℕ, ◌≤◌, List, [], ◌∷◌, ◌++◌, length, sym, subst, arith}
 use Rattle.std.specs.List.{AllByRecursion as All}
 use Rattle.std.proofs.ByRecursion.{All-push, All-weaker}
 use Rattle.std.proofs.lemmas.List.{length_push}
 use Rattle.terms.specs.declared.axioms.Axiom.{Axiom}
 use Rattle.terms.specs.declared.axioms.Axiom.TheVariants.{Inclusion, Exists, ExistsLower, Forall, RoleInclusion}
 use Rattle.terms.specs.Axioms.{Declared, WellFormed}
-use Rattle.sources.specs.Meanings.{Meaning, Limits}
+use Rattle.sources.specs.Meanings.{Limits}
 use Rattle.sheets.specs.Sheets.{Entry, a_class, a_role, an_axiom, Contents, nothing, more, after, meaning_of, Fits, Formed, Opens}
 
 -- an axiom stays declared where there are more classes and roles

@@ -1,7 +1,7 @@
 -- A text has at most one outcome.
 use Rattle.std.proofs.Common.{◌≡◌, ℕ, ◌<◌, ◌⊎◌, List, [], ◌∷◌, ◌++◌, length, get_or, take, drop, sym, refl, ap, ◌∙◌, subst, inl, inr, append_assoc, append-nil, arith}
 use Rattle.std.proofs.lemmas.List.{take_at, drop_at}
-use Rattle.terms.specs.Refusals.{Told, done, refused, Passes, FirstFailing}
+use Rattle.terms.specs.Refusals.{Told, done, refused, FirstFailing}
 use Rattle.terms.proofs.Checking.{first_not_passed, first_one}
 use Rattle.sheets.specs.Sheets.{Entry, tag, body, field_of, written, Contents, nothing, more, after, field_checks, entry_checks, Fits, Formed, Says, Fails, Rejects, Opens, Stops, Gives}
 use Rattle.sheets.proofs.Entries.{same_entry}

@@ -2,8 +2,8 @@
 use Rattle.std.proofs.Common.{◌≡◌, ℕ, ◌+◌, ◌<◌, ◌≤◌, List, [], ◌∷◌, ◌++◌, length, sym, refl, ap, ◌∙◌, subst, inl, inr, append_assoc, append-nil, arith, length-append}
 use Rattle.std.proofs.lemmas.List.{nil_from_length}
 use Rattle.terms.specs.declared.refusals.Layer.{Layer}
-use Rattle.terms.specs.Refusals.{Told, done, refused, Passes, FirstFailing}
-use Rattle.sheets.specs.Sheets.{Entry, tag, body, in_sheet, field_of, written, Contents, nothing, more, after, field_checks, entry_checks, Fits, Formed, Short, Says, Fails, Opens, Stops, Gives}
+use Rattle.terms.specs.Refusals.{refused, Passes, FirstFailing}
+use Rattle.sheets.specs.Sheets.{Entry, tag, body, in_sheet, field_of, written, Contents, nothing, more, after, field_checks, entry_checks, Fits, Formed, Says, Fails, Opens, Gives}
 
 -- the text up to place is written by a well formed list of entries, after which c is held and rest is left
 pub record Sofar (text : List ℕ) (c : Contents) (rest : List ℕ) (place : ℕ) : Type 0 where

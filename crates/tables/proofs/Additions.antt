@@ -1,12 +1,12 @@
 -- The laws of adding: nothing, one record, one thing after another, and what each slot of a list gives.
-use Rattle.std.proofs.Common.{◌≡◌, ℕ, ◌+◌, ◌<◌, ◌≤◌, ◌⊎◌, List, length, get_or, Ok, Err, Result, sym, refl, ap, ◌∙◌, subst, inl, inr, ⊎_elim, arith}
+use Rattle.std.proofs.Common.{◌≡◌, ℕ, ◌+◌, ◌<◌, ◌≤◌, ◌⊎◌, List, get_or, Ok, Err, Result, sym, refl, ap, ◌∙◌, subst, inl, inr, ⊎_elim, arith}
 use Rattle.tables.specs.declared.records.ContextRecord.{ContextRecord}
 use Rattle.tables.specs.declared.records.ClauseRecord.{ClauseRecord}
 use Rattle.tables.specs.declared.entering.Full.{Full}
 use Rattle.tables.specs.declared.members.Counts.{Counts}
-use Rattle.tables.specs.Entering.{Holds, Among, Apart, Kept, Entered, Refused}
-use Rattle.tables.specs.Tables.{Tables, tables, Member, a_context, a_clause, blank, context_of, context_in, clause_of, Cites, Stands, In, Good}
-use Rattle.tables.specs.Adding.{Extends, Grows, Adds, NoSlot, Stuck, Enters, Below}
+use Rattle.tables.specs.Entering.{Holds, Among, Kept, Entered, Refused}
+use Rattle.tables.specs.Tables.{Tables, tables, Member, a_context, a_clause, blank, context_of, context_in, clause_of, Cites, In, Good}
+use Rattle.tables.specs.Adding.{Extends, Grows, Adds, Stuck, Enters, Below}
 use Rattle.tables.proofs.Slots.{at_or_below, holds_one, holds_get_or, among_upto, among_kept, extends_refl, extends_then}
 use Rattle.tables.proofs.Entries.{entered_fits, entered_extends, entered_there, entered_only, entered_apart}
 use Rattle.tables.proofs.Meanings.{clause_of_kept, cites_upto, context_of_one, clause_of_one}

@@ -1,6 +1,6 @@
 -- A table after one record was entered: it has what it had and that record, and nothing twice.
-use Rattle.std.proofs.Common.{◌≡◌, ℕ, ◌+◌, ◌<◌, ◌≤◌, ◌≢◌, ◌⊎◌, List, length, get_or, set, sym, refl, ap, ◌∙◌, subst, inl, inr, ⊎_elim, arith, length-set, get_or-set_other}
-use Rattle.tables.specs.Entering.{Holds, Among, Apart, Kept, Found, Put, Entered}
+use Rattle.std.proofs.Common.{◌≡◌, ℕ, ◌≤◌, ◌⊎◌, List, length, get_or, sym, ap, ◌∙◌, subst, inl, inr, ⊎_elim, arith, length-set, get_or-set_other}
+use Rattle.tables.specs.Entering.{Among, Apart, Kept, Found, Put, Entered}
 use Rattle.tables.specs.Adding.{Extends}
 use Rattle.tables.proofs.Slots.{at_or_below, holds_back}
 

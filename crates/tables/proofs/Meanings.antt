@@ -1,6 +1,6 @@
 -- What records mean: it stays as the contexts grow, and two records never mean the same.
-use Rattle.std.proofs.Common.{◌≡◌, ℕ, ◌<◌, ◌≤◌, List, length, get_or, Some, None, Option, sym, refl, ap, ◌∙◌, subst, arith}
-use Rattle.closure.specs.Closures.{Context, Part, plain, toward, Clause}
+use Rattle.std.proofs.Common.{◌≡◌, ℕ, ◌<◌, ◌≤◌, List, length, get_or, Some, None, Option, sym, refl, ap, subst, arith}
+use Rattle.closure.specs.Closures.{Context, toward, Clause}
 use Rattle.tables.specs.declared.records.ContextRecord.{ContextRecord}
 use Rattle.tables.specs.declared.records.RolePart.{RolePart}
 use Rattle.tables.specs.declared.records.ClauseRecord.{ClauseRecord}

@@ -7,7 +7,7 @@ use Rattle.tables.specs.declared.records.ClauseRecord.{ClauseRecord}
 use Rattle.tables.specs.declared.entering.Full.{Full}
 use Rattle.tables.specs.declared.members.Counts.{Counts}
 use Rattle.tables.specs.Entering.{Entered}
-use Rattle.tables.specs.Tables.{tables, Member, a_context, a_clause, blank, context_of, context_in, clause_of, Cites, Good}
+use Rattle.tables.specs.Tables.{tables, a_context, a_clause, blank, context_of, context_in, clause_of, Cites, Good}
 use Rattle.tables.specs.Adding.{Adds, Enters}
 use Rattle.tables.proofs.Meanings.{context_in_kept}
 use Rattle.tables.proofs.Additions.{enters_then}

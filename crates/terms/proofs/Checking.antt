@@ -1,5 +1,5 @@
 -- Checks leave one answer open.
-use Rattle.std.proofs.Common.{◌≡◌, ℕ, ◌⊎◌, sym, refl, ◌∙◌, subst, inl, inr}
+use Rattle.std.proofs.Common.{◌≡◌, ℕ, sym, refl, ◌∙◌, subst, inl, inr}
 use Rattle.terms.specs.declared.axioms.Axiom.{Axiom}
 use Rattle.terms.specs.Axioms.{axiom_checks, WellFormed}
 use Rattle.terms.specs.declared.refusals.Fault.{Fault}

@@ -7,7 +7,7 @@ use lib.Pow.{pow-lt}
 use lib.Count.{leading_top}
 use Rattle.std.proofs.lemmas.Bool.{eqb-true, eq-eqb, ne_eqb, both_ways, cases_Bool, cases_eq, cases_lt, and_right, or_cases, or_left, or_right}
 use Rattle.std.proofs.lemmas.Bool.Decides.{nat_tests}
-use Rattle.terms.specs.Sets.{has, Has, only, join, without, Highest, Within, Meet, Below}
+use Rattle.terms.specs.Sets.{has, Has, only, join, without, Highest}
 
 -- ---- one bit at a time
 

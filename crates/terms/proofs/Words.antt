@@ -1,5 +1,5 @@
 -- What the code's `<<`, `&`, `!`, `trailing_zeros` and `count_ones` do to class sets.
-use Rattle.std.proofs.Common.{◌≡◌, ℕ, zero, suc, ◌+◌, ◌-◌, ◌*◌, ◌/◌, ◌%◌, ◌^◌, ◌<◌, ◌≤◌, Bool, cond, not, ◌&&◌, eqb, ltb, ◌⊎◌, Decides, sym, refl, ap, ◌∙◌, subst, inl, inr, add_comm, one-add, arith, pow_pos}
+use Rattle.std.proofs.Common.{◌≡◌, ℕ, zero, suc, ◌+◌, ◌-◌, ◌*◌, ◌/◌, ◌%◌, ◌^◌, ◌<◌, ◌≤◌, Bool, cond, not, ◌&&◌, eqb, ltb, Decides, sym, refl, ap, ◌∙◌, inl, inr, add_comm, one-add, arith, pow_pos}
 use lib.Dec.{leb-suc-suc, leb-suc-zero}
 use lib.Bits.{bit_and}
 use lib.Pow.{mod-pow-add}
@@ -8,7 +8,7 @@ use Rattle.std.proofs.lemmas.Bool.{eqb-true, eq-eqb, cases_eq, and_parts, and_fr
 use Rattle.std.proofs.lemmas.Nat.{mod_below, one_shl}
 use Rattle.std.proofs.lemmas.Bool.Decides.{nat_tests}
 use Rattle.terms.specs.Sets.{has, Has, only, without, Within, Meet, Lowest, count_below, size}
-use Rattle.terms.proofs.Masks.{has_zero, has_suc, has_none, has_both, has_only, has_without, odd_has, has_odd, half_has, has_half, ext, highest_of, below_of, none_zero, some_nonzero, past_none, only_below, only_has, only_is, top_of}
+use Rattle.terms.proofs.Masks.{has_zero, has_suc, has_none, has_both, has_only, has_without, odd_has, has_odd, half_has, has_half, ext, highest_of, some_nonzero, past_none, only_below, only_has, only_is, top_of}
 
 -- `1 << a`
 pub shift_only : (a : ℕ) → a < 64 → (1 * 2 ^ a) % 2 ^ 64 ≡ only a

@@ -1,4 +1,4 @@
-use Rattle.std.proofs.Common.{length, refl, arith, rules}
+use Rattle.std.proofs.Common.{length, arith}
 use Rattle.terms.specs.Refusals.{number}
 use Rattle.classifier.proofs.Asking.{asked_told, asked_full, asked_at}
 use Rattle.classifier.proofs.pairs.is_under.Goals as goal

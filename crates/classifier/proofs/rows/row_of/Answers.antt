@@ -1,6 +1,6 @@
-use Rattle.std.proofs.Common.{◌≡◌, sym, refl, ap, ◌∙◌, arith, rules}
+use Rattle.std.proofs.Common.{ap, ◌∙◌, arith}
 use Rattle.std.proofs.lemmas.Result.{err_from_is_err_and}
-use Rattle.terms.specs.Refusals.{number, refused, done}
+use Rattle.terms.specs.Refusals.{refused, done}
 use Rattle.terms.specs.declared.class_set.ClassSet.{ClassSet}
 use Rattle.classifier.proofs.Asking.{asked_sized}
 use Rattle.classifier.proofs.Growing.{row_none, row_yes, row_no, row_cut}

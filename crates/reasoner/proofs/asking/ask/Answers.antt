@@ -1,6 +1,6 @@
-use Rattle.std.proofs.Common.{◌≡◌, ◌*◌, ◌≤◌, length, sym, refl, ap, ◌∙◌, subst, inr, arith, rules}
+use Rattle.std.proofs.Common.{◌*◌, ◌≤◌, length, sym, refl, subst, inr, arith}
 use Rattle.std.proofs.lemmas.Result.{err_from_is_err_and}
-use Rattle.terms.specs.Refusals.{Answers, refused, number, told}
+use Rattle.terms.specs.Refusals.{told}
 use Rattle.terms.specs.Axioms.{WellFormed}
 use Rattle.std.specs.List.{AllByRecursion as All}
 use Rattle.reasoner.specs.Asks.{NoTable, Right, Unshown}

@@ -1,4 +1,4 @@
-use Rattle.std.proofs.Common.{arith, rules}
+use Rattle.std.proofs.Common.{arith}
 use Rattle.roles.proofs.Rows.{formed_included}
 use Rattle.reasoner.proofs.asking.conclude.Goals as goal
 

@@ -1,4 +1,4 @@
-use Rattle.std.proofs.Common.{◌≡◌, None, sym, refl, ap, ◌∙◌, subst, arith, rules}
+use Rattle.std.proofs.Common.{None, refl, arith}
 use Rattle.worlds.specs.Models.{row_width}
 use Rattle.roles.proofs.Rows.{formed_included}
 use Rattle.reasoner.proofs.Admitting.{formed_up}

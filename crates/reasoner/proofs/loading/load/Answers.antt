@@ -1,4 +1,4 @@
-use Rattle.std.proofs.Common.{◌≡◌, sym, refl, ap, ◌∙◌, subst, arith, rules}
+use Rattle.std.proofs.Common.{arith}
 use Rattle.reasoner.proofs.Closing.{loaded}
 use Rattle.reasoner.proofs.loading.load.Goals as goal
 

@@ -1,7 +1,6 @@
-use Rattle.std.proofs.Common.{◌≡◌, None, sym, refl, ap, ◌∙◌, subst, ⊎_elim, arith, rules}
+use Rattle.std.proofs.Common.{◌≡◌, None, sym, refl, ◌∙◌, subst, ⊎_elim, arith, rules}
 use Rattle.std.proofs.lemmas.Bool.Decides.{not_from_Decides}
 use Rattle.tables.specs.Entering.{Among, Holds}
-use Rattle.tables.specs.declared.records.ClauseRecord.{ClauseRecord}
 use Rattle.tables.proofs.Slots.{at_or_below, holds_get_or, holds_one, among_upto}
 use Rattle.saturation.specs.Choices.{lone}
 use Rattle.reasoner.proofs.settling.is_refuted.Goals as goal

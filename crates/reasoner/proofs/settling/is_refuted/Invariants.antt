@@ -1,4 +1,3 @@
-use Rattle.std.proofs.Common.{◌≡◌, ℕ, ◌<◌}
 use Rattle.tables.specs.Entering.{Among}
 use Rattle.reasoner.proofs.settling.is_refuted.Given as goal
 

@@ -1,7 +1,6 @@
 use Rattle.std.proofs.Common.{◌≡◌, ◌+◌, vec_items, sym, ap, ◌∙◌, subst, arith}
 use Rattle.std.proofs.lemmas.Bool.{cond-false, ne_eqb}
 use Rattle.std.proofs.lemmas.Bool.Decides.{not_from_Decides}
-use Rattle.terms.specs.Sets.{count_below}
 use Rattle.sheets.specs.Held.{held}
 use Rattle.report.specs.Sentences.{Wrote, joined_below}
 use Rattle.report.proofs.Appends.{wrote_none, wrote_same}

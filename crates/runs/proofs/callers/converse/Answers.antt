@@ -1,4 +1,4 @@
-use Rattle.std.proofs.Common.{◌≡◌, [], length, take, sym, refl, ap, ◌∙◌, subst, arith, length-take, rules}
+use Rattle.std.proofs.Common.{sym, refl, ap, ◌∙◌, subst, arith}
 use Rattle.book.specs.Books.{book_meaning}
 use Rattle.book.specs.Owned.{own_of}
 use Rattle.runs.specs.Calls.{lent, no_calls, ShownBy}

@@ -1,4 +1,4 @@
-use Rattle.std.proofs.Common.{◌≡◌, [], length, take, sym, refl, ap, ◌∙◌, subst, arith, length-take, rules}
+use Rattle.std.proofs.Common.{ap, ◌∙◌, arith, length-take}
 use Rattle.book.specs.Owned.{own_of}
 use Rattle.runs.specs.Calls.{lent}
 use Rattle.runs.proofs.Running.{lives, lives_shown}

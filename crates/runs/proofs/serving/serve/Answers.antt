@@ -1,4 +1,4 @@
-use Rattle.std.proofs.Common.{◌≡◌, ◌++◌, length, take, drop, Some, None, sym, refl, ap, ◌∙◌, subst, arith, length-take, rules}
+use Rattle.std.proofs.Common.{◌++◌, take, drop, None, sym, refl, ◌∙◌}
 use Rattle.runs.proofs.Lending.{lent_slots, plain_ask, plain_ask_model, lent_words, shown_ask}
 use Rattle.book.specs.Owned.{whole_of}
 use Rattle.runs.specs.Calls.{lent, strikes, adds, amends, asks, audits_model, audits_entries}

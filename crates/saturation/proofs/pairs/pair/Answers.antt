@@ -1,4 +1,3 @@
-use Rattle.std.proofs.Common.{rules}
 use Rattle.saturation.proofs.Partners.{none_elsewhere}
 use Rattle.saturation.proofs.pairs.pair.Goals as goal
 

@@ -1,4 +1,4 @@
-use Rattle.std.proofs.Common.{◌≡◌, ◌<◌, length, get_or, subst, arith, below_more}
+use Rattle.std.proofs.Common.{get_or, subst, arith, below_more}
 use Rattle.terms.specs.Axioms.{blank}
 use Rattle.worlds.specs.declared.audit.Finding.TheVariants.{Passes, Broken}
 use Rattle.worlds.specs.Worlds.{Holds}

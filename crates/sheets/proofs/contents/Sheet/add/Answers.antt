@@ -2,7 +2,7 @@ use Rattle.std.proofs.Common.{◌≡◌, sym, subst}
 use Rattle.terms.specs.Refusals.{Answers, told}
 use Rattle.sheets.specs.declared.contents.Sheet.{Sheet}
 use Rattle.sheets.specs.Sheets.{in_sheet, more, entry_checks}
-use Rattle.sheets.specs.Held.{names_in, held, entry_of}
+use Rattle.sheets.specs.Held.{held, entry_of}
 use Rattle.sheets.proofs.Taking.{class_taken, role_taken}
 use Rattle.sheets.proofs.contents.Sheet.add.Goals as goal
 

@@ -2,7 +2,6 @@ use Rattle.std.proofs.Common.{Err, refl}
 use Rattle.std.proofs.lemmas.Result.{err_from_is_err_and}
 use Rattle.terms.specs.Refusals.{done, told}
 use Rattle.sheets.specs.Held.{held}
-use Rattle.sheets.specs.Sheets.{outcome}
 use Rattle.sheets.proofs.Outcomes.{one_outcome}
 use Rattle.sheets.proofs.Keeping.{opens_keeps}
 use Rattle.sheets.proofs.contents.Sheet.open.Goals as goal

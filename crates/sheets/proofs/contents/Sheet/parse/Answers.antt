@@ -1,6 +1,6 @@
-use Rattle.std.proofs.Common.{◌≡◌, length, sym, refl, ap, ◌∙◌, arith, length-append}
+use Rattle.std.proofs.Common.{length, ap, ◌∙◌, arith, length-append}
 use Rattle.std.proofs.lemmas.Result.{err_from_is_err_and}
-use Rattle.sheets.specs.Held.{held, entry_of}
+use Rattle.sheets.specs.Held.{entry_of}
 use Rattle.sheets.proofs.Progress.{finish, step, stop_field, stop_entry}
 use Rattle.sheets.proofs.contents.Sheet.parse.Goals as goal
 

@@ -1,5 +1,4 @@
-use Rattle.std.proofs.Common.{◌≡◌, ℕ, ◌^◌, ◌<◌, ◌≤◌, not, eqb, sym, ap, ◌∙◌, arith}
-use lib.Bits.{bit_and}
+use Rattle.std.proofs.Common.{◌<◌, ◌≤◌, sym, ◌∙◌, arith}
 use Rattle.std.proofs.lemmas.Bool.{le-ltb}
 use Rattle.terms.proofs.Masks.{past_none}
 use Rattle.terms.proofs.Words.{shift_only, test_only}

@@ -1,4 +1,3 @@
-use Rattle.std.proofs.Common.{arith}
 use Rattle.terms.proofs.Words.{shift_only}
 use Rattle.terms.proofs.class_set.ClassSet.single.Goals as goal
 

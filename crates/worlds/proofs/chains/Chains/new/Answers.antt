@@ -1,4 +1,4 @@
-use Rattle.std.proofs.Common.{◌+◌, length, get_or, set, sym, refl, ◌∙◌, subst, add-one, arith, length-set}
+use Rattle.std.proofs.Common.{◌+◌, get_or, set, sym, refl, ◌∙◌, subst, add-one, arith, length-set}
 use Rattle.worlds.specs.Entries.{no_link, Last, Chained}
 use Rattle.worlds.proofs.Walks.{last_more, chained_more}
 use Rattle.worlds.proofs.chains.Chains.new.Goals as goal

@@ -1,9 +1,8 @@
-use Rattle.std.proofs.Common.{◌≡◌, ℕ, ◌+◌, ◌*◌, ◌/◌, ◌%◌, ◌<◌, true, get_or, sym, refl, ap, ◌∙◌, subst, arith}
+use Rattle.std.proofs.Common.{◌≡◌, true, get_or, sym, refl, ap, ◌∙◌, arith}
 use borrow.Author.Tests.{clash}
 use Rattle.std.proofs.lemmas.Bool.Decides.{not_from_Decides}
 use Rattle.terms.specs.Sets.{has}
 use Rattle.terms.proofs.Masks.{below_of}
-use Rattle.worlds.specs.Entries.{marked}
 use Rattle.worlds.proofs.Marking.{within_marks, marks_within}
 use Rattle.worlds.proofs.marks.Marks.is_subset.Goals as goal
 
