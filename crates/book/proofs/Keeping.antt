@@ -1,6 +1,6 @@
 -- The limits of a book, of the source below it, and of the book after a change.
 use Rattle.std.proofs.Common.{◌≡◌, ℕ, suc, ◌+◌, ◌<◌, ◌≤◌, List, [], ◌∷◌, ◌++◌, length, take, drop, subst, arith, length-append, length-set}
-use Rattle.std.specs.List.{AllByRecursion as All}
+use Rattle.std.specs.List.{AllByRecursion}
 use Rattle.std.proofs.ByRecursion.{All-append, All-set, All-push, All-take, All-drop}
 use Rattle.std.proofs.lemmas.List.{length_push}
 use Rattle.std.proofs.lemmas.List.Edits.{length-remove}
@@ -10,11 +10,11 @@ use Rattle.terms.specs.Refusals.{Passes, end}
 use Rattle.sources.specs.Meanings.{Meaning, Limits}
 use Rattle.book.specs.Books.{book_meaning, added, amended, struck}
 
-all_left : (P : Axiom → Type 0) (xs ys : List Axiom) → All P (xs ++ ys) → All P xs
+all_left : (P : Axiom → Type 0) (xs ys : List Axiom) → AllByRecursion P (xs ++ ys) → AllByRecursion P xs
 all_left P [] ys h = tt
 all_left P (x ∷ xs) ys h = (h.0, all_left P xs ys h.1)
 
-all_right : (P : Axiom → Type 0) (xs ys : List Axiom) → All P (xs ++ ys) → All P ys
+all_right : (P : Axiom → Type 0) (xs ys : List Axiom) → AllByRecursion P (xs ++ ys) → AllByRecursion P ys
 all_right P [] ys h = h
 all_right P (x ∷ xs) ys h = all_right P xs ys h.1
 
@@ -29,7 +29,7 @@ module _ (m : Meaning) (own : List Axiom) (k : Limits (book_meaning m own)) wher
     short_names = k.short_names;
   }
 
-  limits_changed : (after : List Axiom) → length m.axioms + length after ≤ 1024 → All (WellFormed m.classes m.roles) after → Limits (book_meaning m after)
+  limits_changed : (after : List Axiom) → length m.axioms + length after ≤ 1024 → AllByRecursion (WellFormed m.classes m.roles) after → Limits (book_meaning m after)
   limits_changed after few formed = record {
     few_classes = k.few_classes;
     few_roles = k.few_roles;
@@ -39,7 +39,7 @@ module _ (m : Meaning) (own : List Axiom) (k : Limits (book_meaning m own)) wher
     short_names = k.short_names;
   }
 
-  own_formed : All (WellFormed m.classes m.roles) own
+  own_formed : AllByRecursion (WellFormed m.classes m.roles) own
   own_formed = all_right (WellFormed m.classes m.roles) m.axioms own k.formed
 
   pub limits_add : (a : Axiom) → WellFormed m.classes m.roles a → length (m.axioms ++ own) < 1024 → Limits (book_meaning m (added own a))

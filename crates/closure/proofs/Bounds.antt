@@ -1,7 +1,7 @@
 -- A closure keeps to the classes and roles that its goal and its axioms speak of.
 use Rattle.std.proofs.Common.{ℕ, zero, ◌<◌, List, sym, refl, subst, inl, inr}
 use mathlib.Core.List.{Memᴰ}
-use Rattle.std.specs.List.{AllByRecursion as All}
+use Rattle.std.specs.List.{AllByRecursion}
 use Rattle.std.proofs.ByRecursion.{All-weaker}
 use Rattle.terms.specs.Sets.{only, join, without, Below}
 use Rattle.terms.specs.Axioms.{Declared, WellFormed}
@@ -28,7 +28,7 @@ pub record ClauseBelow (c r : ℕ) (x : Clause) : Type 0 where
   pub all_classes : Below c x.classes
   pub its_part : PartBelow c r x.part
 
-pub formed_declared : (c r : ℕ) (axs : List Axiom) → All (WellFormed c r) axs → All (Declared c r) axs
+pub formed_declared : (c r : ℕ) (axs : List Axiom) → AllByRecursion (WellFormed c r) axs → AllByRecursion (Declared c r) axs
 formed_declared c r axs all = All-weaker (WellFormed c r) (Declared c r) (λ x f. f.0) axs all
 
 module _ (c : ℕ) where
@@ -51,7 +51,7 @@ module _ (c : ℕ) where
       below_join (without D a) E (below_without D a (f D (Memᴰ.head refl))) (below_chosen rest (λ F m. f F (Memᴰ.tail m)))
 
 -- what is below c and r keeps the rules
-below_rules : (c r : ℕ) (rank : ℕ → ℕ) (axs : List Axiom) → All (Declared c r) axs → Rules rank axs (ContextBelow c) (ClauseBelow c r)
+below_rules : (c r : ℕ) (rank : ℕ → ℕ) (axs : List Axiom) → AllByRecursion (Declared c r) axs → Rules rank axs (ContextBelow c) (ClauseBelow c r)
 below_rules c r rank axs all = record {
   target = λ H N D p x. x.its_part.1;
   held_class = λ H a h m. record { of_context = h; all_classes = below_only c a (h.held a m); its_part = tt };
@@ -94,7 +94,7 @@ below_rules c r rank axs all = record {
     declared : (x : Axiom) → Memᴰ x axs → Declared c r x
     declared = all_mem (Declared c r) axs all
 
-module _ (c r : ℕ) (rank : ℕ → ℕ) (axs : List Axiom) (G : Context) (all : All (Declared c r) axs) (goal_below : ContextBelow c G) where
+module _ (c r : ℕ) (rank : ℕ → ℕ) (axs : List Axiom) (G : Context) (all : AllByRecursion (Declared c r) axs) (goal_below : ContextBelow c G) where
   pub contexts_below : (H : Context) → InContexts rank axs G H → ContextBelow c H
   contexts_below H h = least_contexts rank axs G (ContextBelow c) (ClauseBelow c r) goal_below (below_rules c r rank axs all) h
 

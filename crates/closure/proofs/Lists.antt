@@ -1,7 +1,7 @@
 -- Lists: entries by number, one entry taken out, and how long a list without repeats can be.
 use Rattle.std.proofs.Common.{◌≡◌, ℕ, zero, suc, ◌<◌, ◌≤◌, ◌⊎◌, List, [], ◌∷◌, length, get_or, sym, refl, ap, ◌∙◌, subst, inl, inr, arith}
 use mathlib.Core.List.{Memᴰ}
-use Rattle.std.specs.List.{AllByRecursion as All}
+use Rattle.std.specs.List.{AllByRecursion}
 use Rattle.closure.specs.Counts.{Distinct}
 
 module _ {A : Type 0} where
@@ -19,7 +19,7 @@ module _ {A : Type 0} where
       next (inr n) r = let t = r n in (suc t.0, omega arith, t.2)
 
   -- what holds of all of a list holds of each entry
-  pub all_mem : (P : A → Type 0) (l : List A) → All P l → (x : A) → Memᴰ x l → P x
+  pub all_mem : (P : A → Type 0) (l : List A) → AllByRecursion P l → (x : A) → Memᴰ x l → P x
   all_mem P [] all x m = absurd (mathlib.Core.List.Memᴰ.not-nil m)
   all_mem P (y ∷ l) all x m = elim (mathlib.Core.List.Memᴰ.cases_cons m) [ inl e ↦ subst P (sym e) all.0 | inr k ↦ all_mem P l all.1 x k ]
 

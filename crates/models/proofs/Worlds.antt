@@ -2,7 +2,7 @@
 use Rattle.std.proofs.Common.{◌≡◌, ℕ, ◌+◌, ◌*◌, ◌/◌, ◌%◌, ◌<◌, ◌≤◌, Bool, true, ◌&&◌, ltb, ◌↔◌, List, map, length, get_or, take, sym, ap, ◌∙◌, subst, arith}
 use mathlib.Core.List.Memᴰ
 use mathlib.Core.List.{Memᴰ}
-use Rattle.std.specs.List.{AllByRecursion as All}
+use Rattle.std.specs.List.{AllByRecursion}
 use Rattle.std.proofs.lemmas.List.{get_or-take, length-take-le}
 use Rattle.std.proofs.lemmas.Bool.{ltb-true, lt-ltb, and_parts, and_from}
 use Rattle.terms.specs.Sets.{has, Has}
@@ -102,7 +102,7 @@ module _ (cs : List ContextRecord) (xs : List ClauseRecord) (n roles : ℕ) (o :
       subst (λ t. Has t (e % 64)) (link_word_lem d q e)
       (((row_of d ld).links q e lq (omega (arith, size_few))).1 (p, omega arith, (shows.right p q (omega arith)).1 r, points))
 
-  pub rows_canonical : (axs : List Axiom) → Shows axs reach → All (Included roles) axs → Canonical rising axs (map context_of (take n cs)) (meant cs xs n roles o) w at
+  pub rows_canonical : (axs : List Axiom) → Shows axs reach → AllByRecursion (Included roles) axs → Canonical rising axs (map context_of (take n cs)) (meant cs xs n roles o) w at
   rows_canonical axs shows inclusions = record {
     listed = λ e l. listed_slot (slot_at live n e) (slot_at_stands live n e l).below;
     live = λ e l. let s = slot_at_stands live n e l in (slot_live (slot_at live n e) s.below).0 s.there;

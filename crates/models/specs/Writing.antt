@@ -1,7 +1,7 @@
 -- What writing a model promises.
 use Rattle.std.specs.Prelude.{◌≡◌, ℕ, ◌+◌, ◌*◌, ◌/◌, ◌%◌, ◌<◌, ◌≤◌, List, length, Some, None, Option, slice_index}
 use mathlib.Core.List.{Memᴰ}
-use Rattle.std.specs.List.{AllByRecursion as All}
+use Rattle.std.specs.List.{AllByRecursion}
 use Rattle.terms.specs.Sets.{Has}
 use Rattle.terms.specs.declared.axioms.Axiom.{Axiom}
 use Rattle.worlds.specs.Models.{row_width, model_world}
@@ -36,7 +36,7 @@ pub record Written (t : Tables) (reach : List ℕ) (roles n : ℕ) (before after
   pub size : length after ≡ length before
   pub rest : (k : ℕ) → n * row_width roles ≤ k → slice_index after k ≡ slice_index before k
   -- whatever axioms the reach was worked out from: the rows show the canonical world, with the goal's element first
-  pub canonical : (axs : List Axiom) → Shows axs reach → All (Included roles) axs
+  pub canonical : (axs : List Axiom) → Shows axs reach → AllByRecursion (Included roles) axs
       → (at : ℕ → Context) × Canonical rising axs (contexts_of t) (clauses_of t) (model_world after roles n) at × (at 0 ≡ context_in t.contexts 0)
   -- no bit stands for a link to an element from n up
   pub no_more_links : (e k f : ℕ) → e < n → k < roles → n ≤ f → f < 256 → Has (slice_index after (e * row_width roles + (1 + 4 * k + f / 64))) (f % 64) → ⊥

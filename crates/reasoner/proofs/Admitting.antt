@@ -1,6 +1,6 @@
 -- The checks of an ask, those before the closure and the one after.
 use Rattle.std.proofs.Common.{◌≡◌, ℕ, ◌≤◌, List, [], ◌∷◌, subst, inl, inr, arith}
-use Rattle.std.specs.List.{AllByRecursion as All}
+use Rattle.std.specs.List.{AllByRecursion}
 use Rattle.terms.specs.Sets.{Below}
 use Rattle.terms.specs.Axioms.{Declared, WellFormed}
 use Rattle.terms.specs.Refusals.{Told, done, refused, end, check, Passes, FirstFailing, Answers}
@@ -22,7 +22,7 @@ declared_up l k (ExistsLower p a b) q = (omega (arith, q.0), omega (arith, q.1),
 declared_up l k (Forall a p b) q = (omega (arith, q.0), omega (arith, q.1), omega (arith, q.2))
 declared_up l k (RoleInclusion p q) h = (omega (arith, h.0), omega (arith, h.1))
 
-pub formed_up : {c r d s : ℕ} → c ≤ d → r ≤ s → (axs : List Axiom) → All (WellFormed c r) axs → All (WellFormed d s) axs
+pub formed_up : {c r d s : ℕ} → c ≤ d → r ≤ s → (axs : List Axiom) → AllByRecursion (WellFormed c r) axs → AllByRecursion (WellFormed d s) axs
 formed_up l k [] p = tt
 formed_up l k (x ∷ axs) p = ((declared_up l k x p.0.0, p.0.1), formed_up l k axs p.1)
 

@@ -1,6 +1,6 @@
 -- The world that filled tables show.
 use Rattle.std.proofs.Common.{◌≡◌, ℕ, zero, ◌*◌, ◌≤◌, List, length, Some, None, Option, sym, refl, ◌∙◌, subst, mul-le-mul_right, arith}
-use Rattle.std.specs.List.{AllByRecursion as All}
+use Rattle.std.specs.List.{AllByRecursion}
 use Rattle.terms.specs.Sets.{Below}
 use Rattle.terms.specs.Axioms.{WellFormed}
 use Rattle.terms.specs.declared.class_set.ClassSet.{ClassSet}
@@ -29,7 +29,7 @@ use Rattle.reasoner.specs.declared.answer.Answer.TheVariants.{Nothing, Something
 
 module _ {axs : List Axiom} {P N : ClassSet} {s u : Tables} (f : Filled axs (goal_of P N) s u) where
   -- the tables are such that a model can be written
-  pub ready : {roles : ℕ} → (Refuted rising axs (goal_of P N) → ⊥) → All (WellFormed 64 roles) axs → roles ≤ 16 → Below 64 P.bits → Below 64 N.bits → length s.contexts ≤ 256 → Ready u roles
+  pub ready : {roles : ℕ} → (Refuted rising axs (goal_of P N) → ⊥) → AllByRecursion (WellFormed 64 roles) axs → roles ≤ 16 → Below 64 P.bits → Below 64 N.bits → length s.contexts ≤ 256 → Ready u roles
   ready {roles} live formed few held denied short = record {
     good = f.grows.good;
     few = omega (arith, f.grows.contexts.size);
@@ -45,7 +45,7 @@ module _ {axs : List Axiom} {P N : ClassSet} {s u : Tables} (f : Filled axs (goa
       part_low (Some r) b = b.0
 
   -- and the model is one of the axioms
-  module _ (c : ℕ) {roles n : ℕ} {reach before after : List ℕ} (shows : Shows axs reach) (formed : All (WellFormed c roles) axs) (w : Written u reach roles n before after) where
+  module _ (c : ℕ) {roles n : ℕ} {reach before after : List ℕ} (shows : Shows axs reach) (formed : AllByRecursion (WellFormed c roles) axs) (w : Written u reach roles n before after) where
     model : Obeys (model_world after roles n) axs × Fits (model_world after roles n) 0 (goal_of P N)
     model =
         let k = w.canonical axs shows (formed_included c roles roles (omega arith) axs formed) in
@@ -71,8 +71,8 @@ pub shown_of : (m : Meaning) {roles n : ℕ} {axs : List Axiom} {P N : ClassSet}
 shown_of m {roles} {n} {axs} {P} {N} {counts} {before} {after} r a h =
     subst (λ k. Shown m.classes k m.axioms P N counts n before after) (sym r) (subst (λ xs. Shown m.classes roles xs P N counts n before after) (sym a) h)
 
-pub formed_of : (m : Meaning) {roles : ℕ} {axs : List Axiom} → m.roles ≡ roles → m.axioms ≡ axs → All (WellFormed m.classes m.roles) m.axioms → All (WellFormed m.classes roles) axs
-formed_of m {roles} {axs} r a h = subst (λ xs. All (WellFormed m.classes roles) xs) a (subst (λ k. All (WellFormed m.classes k) m.axioms) r h)
+pub formed_of : (m : Meaning) {roles : ℕ} {axs : List Axiom} → m.roles ≡ roles → m.axioms ≡ axs → AllByRecursion (WellFormed m.classes m.roles) m.axioms → AllByRecursion (WellFormed m.classes roles) axs
+formed_of m {roles} {axs} r a h = subst (λ xs. AllByRecursion (WellFormed m.classes roles) xs) a (subst (λ k. AllByRecursion (WellFormed m.classes k) m.axioms) r h)
 
 pub room_of : {k n l : ℕ} (w : ℕ) → k ≤ n → n * w ≤ l → k * w ≤ l
 room_of w a b = omega (arith, mul-le-mul_right w a)

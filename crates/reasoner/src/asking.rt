@@ -1,6 +1,6 @@
 //! Asks on any source.
 ghost use Rattle.std.specs.Prelude.{◌≡◌, ℕ, ◌*◌, ◌<◌, ◌≤◌, length, take};
-ghost use Rattle.std.specs.List.{AllByRecursion as All};
+ghost use Rattle.std.specs.List.{AllByRecursion};
 ghost use Rattle.terms.specs.Sets.{Below};
 ghost use Rattle.terms.specs.Axioms.{WellFormed};
 ghost use Rattle.terms.specs.Refusals.{Answers, told, check, end};
@@ -35,7 +35,7 @@ fn fill(
     held: ClassSet,
     denied: ClassSet,
 ) -> Result<Answer, Fault>
-    requires formed { All (WellFormed 64 16) axioms.now }
+    requires formed { AllByRecursion (WellFormed 64 16) axioms.now }
     requires shows { Shows axioms.now reach.now.rows }
     requires few { length contexts.old ≤ 256 }
     requires low { Below 64 held.bits × Below 64 denied.bits }
@@ -95,7 +95,7 @@ fn conclude(
     denied: ClassSet,
 ) -> Result<Answer, Fault>
     requires loaded { count ≤ length axioms.now }
-    requires formed { All (WellFormed 64 16) (take count axioms.now) }
+    requires formed { AllByRecursion (WellFormed 64 16) (take count axioms.now) }
     requires few { length contexts.old ≤ 256 }
     requires low { Below 64 held.bits × Below 64 denied.bits }
     ensures gives { Answers (check 23 (FitsInto (take count axioms.now) (goal_of held denied) (length contexts.old) (length clauses.old)) end) 0 in_ask
@@ -154,14 +154,14 @@ fn conclude_model(
     denied: ClassSet,
 ) -> Result<Answer, Fault>
     requires loaded { count ≤ length axioms.now }
-    requires formed { All (WellFormed 64 roles) (take count axioms.now) }
+    requires formed { AllByRecursion (WellFormed 64 roles) (take count axioms.now) }
     requires few { length contexts.old ≤ 256 }
     requires low { Below 64 held.bits × Below 64 denied.bits }
     requires room { (roles ≤ 16) × RowEach roles (length contexts.old) (length model.old) }
     ensures gives { Answers (check 23 (FitsInto (take count axioms.now) (goal_of held denied) (length contexts.old) (length clauses.old)) end) 0 in_ask
         (λ a. Right (take count axioms.now) held denied a × Numbered a) (told result) }
     ensures after { TablesAfter (take count axioms.now) (goal_of held denied) contexts.old clauses.old contexts.new clauses.new (told result) }
-    ensures shows { (m : MeaningOf) → m.roles ≡ roles → m.axioms ≡ take count axioms.now → All (WellFormed m.classes m.roles) m.axioms
+    ensures shows { (m : MeaningOf) → m.roles ≡ roles → m.axioms ≡ take count axioms.now → AllByRecursion (WellFormed m.classes m.roles) m.axioms
         → Below m.classes held.bits → Below m.classes denied.bits → ModelAfter m held denied model.old model.new (told result) }
 {
     let standing = &axioms[..count];

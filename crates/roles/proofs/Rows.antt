@@ -1,6 +1,6 @@
 -- Rows that hold the tests of which role leads to which, one axiom after another.
 use Rattle.std.proofs.Common.{◌≡◌, ℕ, ◌+◌, ◌-◌, ◌<◌, ◌≤◌, ◌&&◌, ◌||◌, eqb, List, ◌∷◌, length, get_or, drop, set, sym, refl, ap, ◌∙◌, subst, inl, inr, arith, length-set, below_more}
-use Rattle.std.specs.List.{AllByRecursion as All}
+use Rattle.std.specs.List.{AllByRecursion}
 use Rattle.std.proofs.lemmas.List.{get_or_past, get_or-set_same, get_or-set_other, drop_more, drop_all}
 use Rattle.std.proofs.ByRecursion.{All-get_or, All-weaker}
 use Rattle.std.proofs.lemmas.Bool.{cases_eq, cases_lt, eq-eqb, ne_eqb}
@@ -55,15 +55,15 @@ unfolding leads
 tested_more axs i a b rows rows' l h e low more t = subst (λ xs. Tested xs rows') (sym (drop_back axs i (RoleInclusion a b) l h e))
     (record { same = λ p q lp. more p q lp ∙ (λ j. t.same p q lp j || (t.same p a lp j && t.same b q low j)) })
 
-pub sup_low : (axs : List Axiom) (i a b : ℕ) → All (Included 16) axs → i < length axs → get_or axs i blank ≡ RoleInclusion a b → b < 16
+pub sup_low : (axs : List Axiom) (i a b : ℕ) → AllByRecursion (Included 16) axs → i < length axs → get_or axs i blank ≡ RoleInclusion a b → b < 16
 sup_low axs i a b all l e = (subst (Included 16) e (All-get_or (Included 16) axs i blank l all)).1
 
 -- what a role below r reaches is below r
-pub reach_below : (r : ℕ) (axs : List Axiom) (p q : ℕ) → All (Included r) axs → p < r → Reaches axs p q → q < r
+pub reach_below : (r : ℕ) (axs : List Axiom) (p q : ℕ) → AllByRecursion (Included r) axs → p < r → Reaches axs p q → q < r
 reach_below r axs p q all l here = l
 reach_below r axs p q all l (step {q = m} f i) = (all_mem (Included r) axs all (RoleInclusion m q) i).1
 
-pub tested_shows : (axs : List Axiom) (rows : List ℕ) → length rows ≡ 16 → All (Included 16) axs → Tested (drop 0 axs) rows → Shows axs rows
+pub tested_shows : (axs : List Axiom) (rows : List ℕ) → length rows ≡ 16 → AllByRecursion (Included 16) axs → Tested (drop 0 axs) rows → Shows axs rows
 tested_shows axs rows n all t = record {
   right = λ p q l. (λ h. leads_of axs p q (sym (t.same p q l) ∙ h), λ h. t.same p q l ∙ reach_leads axs p q h);
   low = λ p q h. elim (cases_lt p 16) [
@@ -80,7 +80,7 @@ included c r s l (ExistsLower p a b) d = tt
 included c r s l (Forall a p b) d = tt
 included c r s l (RoleInclusion a b) d = (omega (arith, d.0), omega (arith, d.1))
 
-pub formed_included : (c r s : ℕ) → r ≤ s → (axs : List Axiom) → All (WellFormed c r) axs → All (Included s) axs
+pub formed_included : (c r s : ℕ) → r ≤ s → (axs : List Axiom) → AllByRecursion (WellFormed c r) axs → AllByRecursion (Included s) axs
 formed_included c r s l axs all = All-weaker (WellFormed c r) (Included s) (λ x f. included c r s l x f.0) axs all
 
 -- ---- one role inclusion, row after row

@@ -1,6 +1,6 @@
 //! For each role, the roles that it reaches.
 ghost use Rattle.std.specs.Prelude.{◌≡◌, ℕ, ◌<◌, ◌&&◌, ◌||◌, length, slice_index};
-ghost use Rattle.std.specs.List.{AllByRecursion as All};
+ghost use Rattle.std.specs.List.{AllByRecursion};
 ghost use Rattle.terms.specs.Sets.{has};
 ghost use Rattle.roles.specs.Reaching.{Included, Shows};
 
@@ -16,7 +16,7 @@ pub struct Reach {
 impl Reach {
     /// Works out which roles reach which, from the last axiom to the first.
     pub fn of(axioms: &[Axiom]) -> Reach
-        requires { All (Included 16) axioms.now }
+        requires { AllByRecursion (Included 16) axioms.now }
         ensures { Shows axioms.now result.rows }
     {
         let mut rows = [0; 16];

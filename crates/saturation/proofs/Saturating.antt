@@ -2,7 +2,7 @@
 use Rattle.std.proofs.Common.{◌≡◌, ℕ, zero, ◌+◌, ◌<◌, ◌≤◌, ◌⊎◌, List, [], ◌∷◌, Some, None, Option, sym, refl, ap, ◌∙◌, subst, inl, inr, ⊎_elim, arith}
 use mathlib.Core.List.Memᴰ
 use mathlib.Core.List.{Memᴰ}
-use Rattle.std.specs.List.{AllByRecursion as All}
+use Rattle.std.specs.List.{AllByRecursion}
 use Rattle.std.proofs.lemmas.Bool.{cases_lt}
 use Rattle.terms.specs.Sets.{only, join}
 use Rattle.terms.specs.Axioms.{WellFormed}
@@ -344,7 +344,7 @@ closure_then f q = adds_then (sofar_adds f) q (λ m h. inr h) (λ m a. a.1) (λ 
 
 -- ---- roles stay low
 
-pub roles_low : {axs : List Axiom} {G : Context} {s u : Tables} {n : ℕ} → Sofar axs G s u n → All (WellFormed 64 16) axs → ContextBelow 64 G → (x : ClauseRecord) → Among u.clauses u.used.clauses x → RolesBelow 16 x.part
+pub roles_low : {axs : List Axiom} {G : Context} {s u : Tables} {n : ℕ} → Sofar axs G s u n → AllByRecursion (WellFormed 64 16) axs → ContextBelow 64 G → (x : ClauseRecord) → Among u.clauses u.used.clauses x → RolesBelow 16 x.part
 roles_low {axs} {G} {u = u} f formed low x a = go x.part (clauses_below 64 16 rising axs G (formed_declared 64 16 axs formed) low (clause_of u.contexts x) (f.within (a_clause (clause_of u.contexts x)) (record { by = x; among = a; means = refl }))).its_part
   where
     go : (p : Option RolePart) → PartBelow 64 16 (part_of u.contexts p) → RolesBelow 16 p

@@ -1,6 +1,6 @@
 //! What follows from two clauses, one with a role part and one without.
 ghost use Rattle.std.specs.Prelude.{◌≡◌, ◌<◌, ◌≤◌, List, length, Some as Just, None as Nothing, Decides, MatchResult};
-ghost use Rattle.std.specs.List.{AllByRecursion as All};
+ghost use Rattle.std.specs.List.{AllByRecursion};
 ghost use Rattle.terms.specs.Axioms.{WellFormed};
 ghost use Rattle.terms.specs.declared.axioms.Axiom.{Axiom as AxiomOf};
 ghost use Rattle.closure.specs.Closures.{Head, rising};
@@ -101,7 +101,7 @@ fn meet_all(
     other: ClauseRecord,
     top: u8,
 ) -> Result<Counts, Full>
-    requires formed { All (WellFormed 64 16) axioms.now }
+    requires formed { AllByRecursion (WellFormed 64 16) axioms.now }
     requires shows { Shows axioms.now reach.now.rows }
     requires good { Good (tables contexts.old clauses.old counts) }
     requires few { length contexts.old ≤ 256 }
@@ -131,7 +131,7 @@ fn follow(
     part: RolePart,
     other: ClauseRecord,
 ) -> Result<Counts, Full>
-    requires formed { All (WellFormed 64 16) axioms.now }
+    requires formed { AllByRecursion (WellFormed 64 16) axioms.now }
     requires shows { Shows axioms.now reach.now.rows }
     requires good { Good (tables contexts.old clauses.old counts) }
     requires few { length contexts.old ≤ 256 }
@@ -173,7 +173,7 @@ pub(crate) fn pair(
     clause: ClauseRecord,
     other: ClauseRecord,
 ) -> Result<Counts, Full>
-    requires formed { All (WellFormed 64 16) axioms.now }
+    requires formed { AllByRecursion (WellFormed 64 16) axioms.now }
     requires shows { Shows axioms.now reach.now.rows }
     requires good { Good (tables contexts.old clauses.old counts) }
     requires few { length contexts.old ≤ 256 }

@@ -1,6 +1,6 @@
 //! Entering the closure of a goal into the two tables.
 ghost use Rattle.std.specs.Prelude.{◌≡◌, ◌<◌, ◌≤◌, length, IfOk};
-ghost use Rattle.std.specs.List.{AllByRecursion as All};
+ghost use Rattle.std.specs.List.{AllByRecursion};
 ghost use Rattle.terms.specs.Sets.{Below};
 ghost use Rattle.terms.specs.Axioms.{WellFormed};
 ghost use Rattle.closure.specs.Closures.{rising};
@@ -46,7 +46,7 @@ pub fn saturate(
     clauses: &mut [ClauseRecord],
     goal: ContextRecord,
 ) -> Result<Counts, Full>
-    requires formed { All (WellFormed 64 16) axioms.now }
+    requires formed { AllByRecursion (WellFormed 64 16) axioms.now }
     requires shows { Shows axioms.now reach.now.rows }
     requires few { length contexts.old ≤ 256 }
     requires low { Below 64 goal.held.bits × Below 64 goal.denied.bits }

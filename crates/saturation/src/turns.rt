@@ -1,6 +1,6 @@
 //! What follows from one clause, with the clauses before it.
 ghost use Rattle.std.specs.Prelude.{◌≡◌, ℕ, ◌+◌, ◌<◌, ◌≤◌, List, length, None as Nothing};
-ghost use Rattle.std.specs.List.{AllByRecursion as All};
+ghost use Rattle.std.specs.List.{AllByRecursion};
 ghost use Rattle.terms.specs.Axioms.{WellFormed};
 ghost use Rattle.closure.specs.Closures.{Head, rising};
 ghost use Rattle.closure.specs.Closures.{Clause as ClauseOf};
@@ -103,7 +103,7 @@ fn alone(
     counts: Counts,
     slot: usize,
 ) -> Result<Counts, Full>
-    requires formed { All (WellFormed 64 16) axioms.now }
+    requires formed { AllByRecursion (WellFormed 64 16) axioms.now }
     requires good { Good (tables contexts.old clauses.old counts) }
     requires few { length contexts.old ≤ 256 }
     requires used { slot < counts.clauses }
@@ -131,7 +131,7 @@ pub(crate) fn turn(
     counts: Counts,
     slot: usize,
 ) -> Result<Counts, Full>
-    requires formed { All (WellFormed 64 16) axioms.now }
+    requires formed { AllByRecursion (WellFormed 64 16) axioms.now }
     requires shows { Shows axioms.now reach.now.rows }
     requires good { Good (tables contexts.old clauses.old counts) }
     requires few { length contexts.old ≤ 256 }

@@ -1,6 +1,6 @@
 -- Numbers in bytes, high byte first.
 use Rattle.std.proofs.Common.{◌≡◌, ℕ, zero, suc, ◌+◌, ◌*◌, ◌/◌, ◌%◌, ◌^◌, ◌<◌, List, [], ◌∷◌, length, get_or, refl, ap, ◌∙◌, pow-suc, arith}
-use Rattle.std.specs.List.{AllByRecursion as All}
+use Rattle.std.specs.List.{AllByRecursion}
 use Rattle.std.proofs.lemmas.Nat.{div-mul-add, mod-mul-add, mul-add-lt, div-add-mod', mod_below}
 use Rattle.sheets.specs.Sheets.{bytes_of}
 
@@ -9,11 +9,11 @@ abbrev pub value : List ℕ → ℕ
 value [] = 0
 value (b ∷ bs) = b * 256 ^ length bs + value bs
 
-pub value_lt : (bs : List ℕ) → All (λ b. b < 256) bs → value bs < 256 ^ length bs
+pub value_lt : (bs : List ℕ) → AllByRecursion (λ b. b < 256) bs → value bs < 256 ^ length bs
 value_lt [] h = omega arith
 value_lt (b ∷ bs) h = rw pow-suc (mul-add-lt b (256 ^ length bs) (value bs) 256 h.0 (value_lt bs h.1))
 
-pub bytes_of_value : (bs : List ℕ) → All (λ b. b < 256) bs → bytes_of (length bs) (value bs) ≡ bs
+pub bytes_of_value : (bs : List ℕ) → AllByRecursion (λ b. b < 256) bs → bytes_of (length bs) (value bs) ≡ bs
 bytes_of_value [] h = refl
 bytes_of_value (b ∷ bs) h =
     let lt = value_lt bs h.1 in

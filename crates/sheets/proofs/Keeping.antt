@@ -1,6 +1,6 @@
 -- A sheet that opens keeps the limits of a source.
 use Rattle.std.proofs.Common.{ℕ, ◌≤◌, List, [], ◌∷◌, ◌++◌, length, sym, subst, arith}
-use Rattle.std.specs.List.{AllByRecursion as All}
+use Rattle.std.specs.List.{AllByRecursion}
 use Rattle.std.proofs.ByRecursion.{All-push, All-weaker}
 use Rattle.std.proofs.lemmas.List.{length_push}
 use Rattle.terms.specs.declared.axioms.Axiom.{Axiom}
@@ -17,7 +17,7 @@ declared_more c c' r r' p q (ExistsLower role filler upper) d = omega arith
 declared_more c c' r r' p q (Forall lower role filler) d = omega arith
 declared_more c c' r r' p q (RoleInclusion sub sup) d = omega arith
 
-formed_more : (c c' r r' : ℕ) → c ≤ c' → r ≤ r' → (xs : List Axiom) → All (WellFormed c r) xs → All (WellFormed c' r') xs
+formed_more : (c c' r r' : ℕ) → c ≤ c' → r ≤ r' → (xs : List Axiom) → AllByRecursion (WellFormed c r) xs → AllByRecursion (WellFormed c' r') xs
 formed_more c c' r r' p q xs w = All-weaker (WellFormed c r) (WellFormed c' r') (λ a k. (declared_more c c' r r' p q a k.0, k.1)) xs w
 
 nothing_keeps : Limits (meaning_of nothing)

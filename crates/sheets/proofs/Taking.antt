@@ -1,6 +1,6 @@
 -- A sheet that takes in an entry.
 use Rattle.std.proofs.Common.{◌≡◌, ℕ, ◌<◌, ◌≤◌, List, [], ◌∷◌, ◌++◌, length, refl, subst, inl, inr, arith}
-use Rattle.std.specs.List.{ContainsAt as Has, AllByRecursion as All}
+use Rattle.std.specs.List.{ContainsAt, AllByRecursion}
 use Rattle.terms.specs.declared.axioms.Axiom.{Axiom}
 use Rattle.terms.specs.Axioms.{axiom_checks}
 use Rattle.terms.specs.Refusals.{Told, Checks, end, check, Passes, FirstFailing, Answers}
@@ -30,11 +30,11 @@ module _ (c : Contents) (a : Axiom) (x y : ℕ) (ex : x ≡ length c.classes) (e
   axiom_fits p l = axiom_passed (length c.classes) (length c.roles) a room (there p) (l, tt)
 
 -- a name after these
-module _ (names : List (List ℕ)) (most : ℕ) (n : List ℕ) (printed : All Printed n) where
-  pub name_repeated : Has names n → FirstFailing (name_checks names most n) 6
+module _ (names : List (List ℕ)) (most : ℕ) (n : List ℕ) (printed : AllByRecursion Printed n) where
+  pub name_repeated : ContainsAt names n → FirstFailing (name_checks names most n) 6
   name_repeated h = inr (printed, inl (refl, λ fresh. fresh h))
 
-  pub name_full : (Has names n → ⊥) → most ≤ length names → FirstFailing (name_checks names most n) 9
+  pub name_full : (ContainsAt names n → ⊥) → most ≤ length names → FirstFailing (name_checks names most n) 9
   name_full fresh full = inr (printed, inr (fresh, inl (refl, λ l. omega arith)))
 
 -- the names that a sheet has after one more was declared

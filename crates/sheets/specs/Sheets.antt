@@ -1,6 +1,6 @@
 -- How a sheet is written, and what opening one tells.
 use Rattle.std.specs.Prelude.{◌≡◌, ℕ, zero, suc, ◌/◌, ◌%◌, ◌^◌, ◌<◌, ◌≤◌, ◌⊎◌, List, [], ◌∷◌, ◌++◌, length, ◌≢◌}
-use Rattle.std.specs.List.{ContainsAt as Has, AllByRecursion as All}
+use Rattle.std.specs.List.{ContainsAt, AllByRecursion}
 use Rattle.terms.specs.declared.axioms.Axiom.{Axiom}
 use Rattle.terms.specs.declared.axioms.Axiom.TheVariants.{Inclusion, Exists, ExistsLower, Forall, RoleInclusion}
 use Rattle.terms.specs.declared.refusals.Layer.{Layer}
@@ -95,7 +95,7 @@ Printed b = (33 ≤ b) × (b ≤ 126)
 
 -- the checks of a name after these, of which there may be so many
 abbrev pub name_checks : List (List ℕ) → ℕ → List ℕ → Checks
-name_checks names most n = check 5 (All Printed n) (check 6 (Has names n → ⊥) (check 9 (length names < most) end))
+name_checks names most n = check 5 (AllByRecursion Printed n) (check 6 (ContainsAt names n → ⊥) (check 9 (length names < most) end))
 
 -- the checks of an entry after what c holds
 abbrev pub entry_checks : Contents → Entry → Checks

@@ -1,6 +1,6 @@
 //! Names of classes and roles.
 ghost use Rattle.std.specs.Prelude.{◌≡◌, ◌≤◌, length, take, Decides};
-ghost use Rattle.std.specs.List.{AllByRecursion as All};
+ghost use Rattle.std.specs.List.{AllByRecursion};
 ghost use Rattle.sheets.specs.Sheets.{Printed};
 
 /// A name of at most 40 bytes.
@@ -36,7 +36,7 @@ impl Name {
 
 /// Whether each byte is one that names may have.
 pub fn is_printed(text: &[u8]) -> bool
-    ensures { Decides result (All Printed text.now) }
+    ensures { Decides result (AllByRecursion Printed text.now) }
 {
     for byte in text {
         if *byte < 33 || *byte > 126 {

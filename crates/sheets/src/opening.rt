@@ -1,6 +1,6 @@
 //! Opening a sheet.
 ghost use Rattle.std.specs.Prelude.{◌≡◌, ◌≤◌, [], ◌∷◌, ◌++◌, map, length, Err, Decides, MatchResult, OnErr};
-ghost use Rattle.std.specs.List.{ContainsAt as Has};
+ghost use Rattle.std.specs.List.{ContainsAt};
 ghost use Rattle.terms.specs.Refusals.{Told, told, done, Answers, Passes};
 ghost use Rattle.sources.specs.Meanings.{Limits};
 ghost use Rattle.sheets.specs.Sheets.{Contents, in_sheet, nothing, more, an_axiom, meaning_of, field_checks, name_checks, entry_checks, Gives, outcome};
@@ -17,7 +17,7 @@ use terms::{Axiom, ClassSet, Fault, Layer, Refusal};
 
 /// Whether one of the names is spelled so.
 fn is_among(names: &[Name], text: &[u8]) -> bool
-    ensures { Decides result (Has (map spelled names.now) text.now) }
+    ensures { Decides result (ContainsAt (map spelled names.now) text.now) }
 {
     for other in names {
         if other.as_bytes() == text {

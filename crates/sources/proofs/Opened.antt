@@ -1,7 +1,7 @@
 -- Opening a record table has one outcome, and an open table keeps its limits.
 use Rattle.std.proofs.Common.{◌≡◌, ℕ, ◌<◌, ◌≤◌, ◌⊎◌, List, [], length, get_or, take, sym, refl, ap, ◌∙◌, subst, inl, inr, arith}
 use lib.ListN.{length-replicate, get_or-replicate}
-use Rattle.std.specs.List.{AllByRecursion as All}
+use Rattle.std.specs.List.{AllByRecursion}
 use Rattle.std.proofs.ByRecursion.{All-get_or, All-from_get_or}
 use Rattle.std.proofs.lemmas.List.{get_or-take, length-take-le}
 use Rattle.std.proofs.lemmas.Bool.{cases_order}
@@ -13,7 +13,7 @@ use Rattle.terms.proofs.Checking.{first_not_passed, first_one}
 use Rattle.sources.specs.Meanings.{Limits}
 use Rattle.sources.specs.Tables.{in_table, table_meaning, Sized, Stops, Opening}
 
-pub table_keeps : (c r : ℕ) (xs : List Axiom) → Sized c r xs → All (WellFormed c r) xs → Limits (table_meaning c r xs)
+pub table_keeps : (c r : ℕ) (xs : List Axiom) → Sized c r xs → AllByRecursion (WellFormed c r) xs → Limits (table_meaning c r xs)
 table_keeps c r xs s w = record {
   few_classes = s.0;
   few_roles = s.1;
@@ -27,17 +27,17 @@ table_keeps c r xs s w = record {
 
 module _ (c r : ℕ) (xs : List Axiom) where
   -- opening stops at record i
-  pub stopped : (i n p : ℕ) (y : Layer) → Sized c r xs → i < length xs → All (WellFormed c r) (take i xs) → FirstFailing (axiom_checks c r (get_or xs i blank) end) n → p ≡ i → y ≡ in_table → Opening c r xs (refused n p y)
+  pub stopped : (i n p : ℕ) (y : Layer) → Sized c r xs → i < length xs → AllByRecursion (WellFormed c r) (take i xs) → FirstFailing (axiom_checks c r (get_or xs i blank) end) n → p ≡ i → y ≡ in_table → Opening c r xs (refused n p y)
   stopped i n p y s l w f e h = (h, inr (subst (Stops c r xs n) (sym e) (record { sized = s; there = l; before = w; fails = f })))
 
   -- a record that fails a check is not among the well formed
-  not_among : (n p k : ℕ) → p < k → k ≤ length xs → FirstFailing (axiom_checks c r (get_or xs p blank) end) n → All (WellFormed c r) (take k xs) → ⊥
+  not_among : (n p k : ℕ) → p < k → k ≤ length xs → FirstFailing (axiom_checks c r (get_or xs p blank) end) n → AllByRecursion (WellFormed c r) (take k xs) → ⊥
   not_among n p k l h f w =
       let here = All-get_or (WellFormed c r) (take k xs) p blank (omega (arith, length-take-le k xs h)) w in
       let good = subst (WellFormed c r) (get_or-take k xs p blank l) here in
       first_not_passed (axiom_checks c r (get_or xs p blank) end) n f (good.0, (good.1, tt))
 
-  stops_fails : (n p : ℕ) → Stops c r xs n p → All (WellFormed c r) xs → ⊥
+  stops_fails : (n p : ℕ) → Stops c r xs n p → AllByRecursion (WellFormed c r) xs → ⊥
   stops_fails n p s w =
       let good = All-get_or (WellFormed c r) xs p blank s.there w in
       first_not_passed (axiom_checks c r (get_or xs p blank) end) n s.fails (good.0, (good.1, tt))
@@ -53,7 +53,7 @@ module _ (c r : ℕ) (xs : List Axiom) where
   refused_one m n p q (inr s) (inl t) = absurd (t.2 s.sized)
   refused_one m n p q (inr s) (inr t) = stops_one m n p q s t (cases_order p q)
 
-  done_refused : (n p : ℕ) → Sized c r xs → All (WellFormed c r) xs → ((n ≡ 9) × (p ≡ 0) × (Sized c r xs → ⊥)) ⊎ Stops c r xs n p → ⊥
+  done_refused : (n p : ℕ) → Sized c r xs → AllByRecursion (WellFormed c r) xs → ((n ≡ 9) × (p ≡ 0) × (Sized c r xs → ⊥)) ⊎ Stops c r xs n p → ⊥
   done_refused n p s w (inl t) = t.2 s
   done_refused n p s w (inr t) = stops_fails n p t w
 

@@ -1,6 +1,6 @@
 -- What a source of axioms means, and the limits that it keeps.
 use Rattle.std.specs.Prelude.{◌≡◌, ℕ, ◌≤◌, List, [], length, slice_index_or}
-use Rattle.std.specs.List.{AllByRecursion as All}
+use Rattle.std.specs.List.{AllByRecursion}
 use Rattle.terms.specs.declared.axioms.Axiom.{Axiom}
 use Rattle.terms.specs.Axioms.{WellFormed}
 
@@ -19,6 +19,6 @@ pub record Limits (m : Meaning) : Type 0 where
   pub few_classes : m.classes ≤ 64
   pub few_roles : m.roles ≤ 16
   pub few_axioms : length m.axioms ≤ 1024
-  pub formed : All (WellFormed m.classes m.roles) m.axioms
+  pub formed : AllByRecursion (WellFormed m.classes m.roles) m.axioms
   pub each_named : length m.names ≡ m.classes
-  pub short_names : All (λ n. length n ≤ 40) m.names
+  pub short_names : AllByRecursion (λ n. length n ≤ 40) m.names

@@ -1,6 +1,6 @@
 -- What a table of axiom records means, and when it is refused.
 use Rattle.std.specs.Prelude.{◌≡◌, ℕ, ◌<◌, ◌≤◌, ◌⊎◌, List, [], length, take, replicate, slice_index_or}
-use Rattle.std.specs.List.{AllByRecursion as All}
+use Rattle.std.specs.List.{AllByRecursion}
 use Rattle.terms.specs.declared.axioms.Axiom.{Axiom}
 use Rattle.terms.specs.declared.refusals.Layer.{Layer}
 use Rattle.terms.specs.declared.refusals.Layer.TheVariants.{RecordTable}
@@ -23,10 +23,10 @@ Sized c r xs = (c ≤ 64) × (r ≤ 16) × (length xs ≤ 1024)
 pub record Stops (c r : ℕ) (xs : List Axiom) (n p : ℕ) : Type 0 where
   pub sized : Sized c r xs
   pub there : p < length xs
-  pub before : All (WellFormed c r) (take p xs)
+  pub before : AllByRecursion (WellFormed c r) (take p xs)
   pub fails : FirstFailing (axiom_checks c r (slice_index_or xs p blank) end) n
 
 -- what opening such a table tells
 abbrev pub Opening : ℕ → ℕ → List Axiom → Told (Unit {0}) → Type 0
-Opening c r xs (done u) = Sized c r xs × All (WellFormed c r) xs
+Opening c r xs (done u) = Sized c r xs × AllByRecursion (WellFormed c r) xs
 Opening c r xs (refused n p y) = (y ≡ in_table) × (((n ≡ 9) × (p ≡ 0) × (Sized c r xs → ⊥)) ⊎ Stops c r xs n p)

@@ -1,6 +1,6 @@
 -- The world that a table of entries shows: one word of classes an entry, and a list of links.
 use Rattle.std.specs.Prelude.{◌≡◌, ℕ, zero, suc, ◌/◌, ◌%◌, ◌<◌, ◌≤◌, Bool, false, cond, ◌&&◌, ◌||◌, List, [], ◌∷◌, length, ◌==◌, slice_index, slice_index_or}
-use Rattle.std.specs.List.{AllByRecursion as All}
+use Rattle.std.specs.List.{AllByRecursion}
 use Rattle.terms.specs.Sets.{has}
 use Rattle.terms.specs.Refusals.{Checks, end, check}
 use Rattle.worlds.specs.Worlds.{World}
@@ -23,7 +23,7 @@ abbrev pub Fits : ℕ → Link → Type 0
 Fits n x = (x.from < n) × (x.role < 16) × (x.to < n)
 
 abbrev pub entry_checks : List ℕ → List Link → Checks
-entry_checks words xs = check 12 ((1 ≤ length words) × (length words ≤ 4096) × (length xs ≤ 16384)) (check 13 (All (Fits (length words)) xs) end)
+entry_checks words xs = check 12 ((1 ≤ length words) × (length words ≤ 4096) × (length xs ≤ 16384)) (check 13 (AllByRecursion (Fits (length words)) xs) end)
 
 -- what is read of a list of links past its end; no promise speaks of it
 abbrev pub no_link : Link

@@ -1,6 +1,6 @@
 //! A world in a store's entries and their links.
 ghost use Rattle.std.specs.Prelude.{◌≡◌, ℕ, ◌<◌, ◌≤◌, [], ◌∷◌, length, get_or, Decides, OnErr, slice_index_or};
-ghost use Rattle.std.specs.List.{AllByRecursion as All};
+ghost use Rattle.std.specs.List.{AllByRecursion};
 ghost use Rattle.terms.specs.Refusals.{Answers, told};
 ghost use Rattle.worlds.specs.Worlds.{Successor};
 ghost use Rattle.worlds.specs.Entries.{entry_world, entry_checks, Fits, Last, Chained, any_link, latest, marked, no_link};
@@ -34,7 +34,7 @@ fn is_fit(link: Link, entries: usize) -> bool
 
 /// Whether the ends of each link are among so many entries, and its role is below 16.
 fn all_fit(links: &[Link], entries: usize) -> bool
-    ensures { Decides result (All (Fits entries) links.now) }
+    ensures { Decides result (AllByRecursion (Fits entries) links.now) }
 {
     for link in links {
         if !is_fit(*link, entries) {

@@ -2,7 +2,7 @@ use Rattle.std.proofs.Common.{◌*◌, ◌≤◌, length, sym, refl, subst, inr,
 use Rattle.std.proofs.lemmas.Result.{err_from_is_err_and}
 use Rattle.terms.specs.Refusals.{told}
 use Rattle.terms.specs.Axioms.{WellFormed}
-use Rattle.std.specs.List.{AllByRecursion as All}
+use Rattle.std.specs.List.{AllByRecursion}
 use Rattle.reasoner.specs.Asks.{NoTable, Right, Unshown}
 use Rattle.reasoner.proofs.Admitting.{formed_up, below_up, first_more, not_full, then_answers, answers_of, tables_of}
 use Rattle.reasoner.proofs.asking.ask.Goals as goal
@@ -25,7 +25,7 @@ conclude-requires g c =
     let p = c.in_ok-admit.ensures.0 in
     record {
       loaded = omega (arith, c.load-count.ensures.count, c.requires.few_axioms, c.load-count.auto.axioms);
-      formed = subst (All (WellFormed 64 16)) (sym c.load-count.ensures.loaded) (formed_up c.requires.few_classes c.requires.few_roles m.axioms c.requires.formed);
+      formed = subst (AllByRecursion (WellFormed 64 16)) (sym c.load-count.ensures.loaded) (formed_up c.requires.few_classes c.requires.few_roles m.axioms c.requires.formed);
       few = p.1.0.0;
       low = (below_up c.args.held.bits (omega (arith, c.requires.few_classes, c.class_count.ensures)) p.0.0, below_up c.args.denied.bits (omega (arith, c.requires.few_classes, c.class_count.ensures)) p.0.1);
     }

@@ -1,6 +1,6 @@
 use Rattle.std.proofs.Common.{◌+◌, ◌*◌, ◌≤◌, length, sym, refl, ap, subst, inr, arith}
 use Rattle.std.proofs.lemmas.Result.{err_from_is_err_and}
-use Rattle.std.specs.List.{AllByRecursion as All}
+use Rattle.std.specs.List.{AllByRecursion}
 use Rattle.terms.specs.Refusals.{told}
 use Rattle.terms.specs.Axioms.{WellFormed}
 use Rattle.reasoner.specs.Asks.{RowEach, Right, Numbered}
@@ -34,7 +34,7 @@ conclude_model-requires g c =
     let p = c.in_ok-admit.ensures.0 in
     record {
       loaded = omega (arith, c.load-count.ensures.count, c.requires.few_axioms, c.load-count.auto.axioms);
-      formed = subst (All (WellFormed 64 c.role_count-roles.result)) (sym c.load-count.ensures.loaded) (formed_up c.requires.few_classes (omega (arith, c.role_count-roles.ensures)) m.axioms c.requires.formed);
+      formed = subst (AllByRecursion (WellFormed 64 c.role_count-roles.result)) (sym c.load-count.ensures.loaded) (formed_up c.requires.few_classes (omega (arith, c.role_count-roles.ensures)) m.axioms c.requires.formed);
       few = p.1.0.0;
       low = (below_up c.args.held.bits (omega (arith, c.requires.few_classes, c.class_count.ensures)) p.0.0, below_up c.args.denied.bits (omega (arith, c.requires.few_classes, c.class_count.ensures)) p.0.1);
       room = (omega (arith, c.role_count-roles.ensures, c.requires.few_roles), p.1.0.2);

@@ -1,5 +1,5 @@
 use Rattle.std.proofs.Common.{subst}
-use Rattle.std.specs.List.{AllByRecursion as All}
+use Rattle.std.specs.List.{AllByRecursion}
 use Rattle.std.proofs.ByRecursion.{All-more}
 use Rattle.std.proofs.lemmas.List.{take_all}
 use Rattle.std.proofs.lemmas.Result.{err_from_is_err_and}
@@ -20,4 +20,4 @@ returns-in_err-check c =
     rw (p.1, p.2) (stopped _ _ _ c.loop-i.i _ _ _ c.loop-i.invariant.0 c.loop-i-test.true c.loop-i.invariant.1 bad.0 bad.1 bad.2)
 
 pub returns : goal.returns
-returns c = (c.loop-i.invariant.0, subst (All (WellFormed c.args.classes c.args.roles)) (take_all c.loop-i.i c.args.records.now c.loop-i-test.false) c.loop-i.invariant.1)
+returns c = (c.loop-i.invariant.0, subst (AllByRecursion (WellFormed c.args.classes c.args.roles)) (take_all c.loop-i.i c.args.records.now c.loop-i-test.false) c.loop-i.invariant.1)

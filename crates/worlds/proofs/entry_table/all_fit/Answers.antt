@@ -1,6 +1,6 @@
 use Rattle.std.proofs.Common.{refl, subst, arith}
 use borrow.Author.Tests.{clash}
-use Rattle.std.specs.List.{AllByRecursion as All}
+use Rattle.std.specs.List.{AllByRecursion}
 use Rattle.std.proofs.ByRecursion.{All-get_or, All-more}
 use Rattle.std.proofs.lemmas.List.{take_all}
 use Rattle.std.proofs.lemmas.Bool.Decides.{not_from_Decides}
@@ -19,4 +19,4 @@ loop-link-preserved c =
     (c.is_fit.ensures.0 c.if-not-is_fit.false)
 
 pub returns : goal.returns
-returns c = (λ _. subst (All (Fits c.args.entries)) (take_all c.loop-link.link-index c.args.links.now (omega arith)) c.loop-link.invariant, λ _. refl)
+returns c = (λ _. subst (AllByRecursion (Fits c.args.entries)) (take_all c.loop-link.link-index c.args.links.now (omega arith)) c.loop-link.invariant, λ _. refl)
