@@ -10,7 +10,7 @@ use Rattle.worlds.specs.Worlds.{InAll, InNone}
 use Rattle.worlds.specs.Models.{model_world}
 use Rattle.worlds.specs.Entries.{entry_world}
 use Rattle.worlds.specs.declared.audit.Finding.TheVariants as finding
-use Rattle.reasoner.specs.Asks.{in_ask, goal_of, FitsInto, admit_checks, RoomOf, verdict_of, Says}
+use Rattle.reasoner.specs.Asks.{in_ask, goal_of, FitsInto, admit_checks, RoomOf, verdict_of, Says, Same}
 use Rattle.reasoner.specs.declared.answer.Answer.{Answer}
 use Rattle.reasoner.specs.declared.answer.Answer.TheVariants.{Nothing}
 use Rattle.book.specs.Books.{standing, book_meaning, added, amended, struck}
@@ -82,6 +82,25 @@ pub record Lawful (m : Meaning) (l : Lent) (own : List Axiom) (cs : List Call) (
 abbrev pub LastShown : Meaning → List Axiom → List Call → List Heard → List ℕ → Type 0
 LastShown m own cs hs model = (i : ℕ) (c : Call) (h : Heard) → suc i ≡ length cs → At cs hs i c h → ShownBy (book_meaning m (own_at own cs hs i)) c h model
 
--- the plain book leaves no answer open, but for the number of elements, and runs can be put end to end
+-- ---- nothing is left open, and runs join
+
+-- the same was heard of a call, but for the number of elements
+abbrev pub SameHeard : Heard → Heard → Type 0
+SameHeard (heard.Changed r) (heard.Changed s) = told r ≡ told s
+SameHeard (heard.Asked r) (heard.Asked s) = Same (told r) (told s)
+SameHeard (heard.Audited r) (heard.Audited s) = told r ≡ told s
+SameHeard (heard.Changed r) (heard.Asked s) = ⊥
+SameHeard (heard.Changed r) (heard.Audited s) = ⊥
+SameHeard (heard.Asked r) (heard.Changed s) = ⊥
+SameHeard (heard.Asked r) (heard.Audited s) = ⊥
+SameHeard (heard.Audited r) (heard.Changed s) = ⊥
+SameHeard (heard.Audited r) (heard.Asked s) = ⊥
+
+-- the plain book leaves no answer open: of the same calls, from the same own list, the same is heard, and the same own list stands in the end
+abbrev pub OneRun : Type 0
+OneRun = (m : Meaning) (l : Lent) (own later last : List Axiom) (cs : List Call) (hs ks : List Heard) → Run m l own cs hs later → Run m l own cs ks last
+    → (length hs ≡ length ks) × ((i : ℕ) (c : Call) (h k : Heard) → At cs hs i c h → At cs ks i c k → SameHeard h k) × (later ≡ last)
+
+-- runs can be put end to end
 abbrev pub Joined : Type 0
 Joined = (m : Meaning) (l : Lent) (own later last : List Axiom) (cs ds : List Call) (hs ks : List Heard) → Run m l own cs hs later → Run m l later ds ks last → Run m l own (cs ++ ds) (hs ++ ks) last

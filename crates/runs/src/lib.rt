@@ -4,8 +4,10 @@
 pub mod callers;
 pub mod calls;
 pub mod drivers;
+pub mod laws;
 mod serving;
 
 pub use callers::{Caller, converse};
 pub use calls::{Call, Heard};
 pub use drivers::life;
+pub use laws::{joined, one_run};
