@@ -51,7 +51,7 @@ pub fn saturate(
     requires few { length contexts.old ≤ 256 }
     requires low { Below 64 goal.held.bits × Below 64 goal.denied.bits }
     ensures closure { Enters (InClosure rising axioms.now (context_of goal))
-        (tables contexts.entry.now clauses.old (record { contexts = 0; clauses = 0 })) (tables contexts.exit.now clauses.new) result }
+        (tables contexts.old clauses.old (record { contexts = 0; clauses = 0 })) (tables contexts.new clauses.new) result }
     ensures first { IfOk result (λ n. (0 < n.contexts) × (context_in contexts.new 0 ≡ context_of goal)) }
 {
     let nothing = Counts {

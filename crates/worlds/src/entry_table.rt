@@ -1,5 +1,5 @@
 //! A world in a store's entries and their links.
-ghost use Rattle.std.specs.Prelude.{◌≡◌, ℕ, ◌<◌, ◌≤◌, [], ◌∷◌, length, get_or, Decides, OnErr, slice_index_or};
+ghost use Rattle.std.specs.Prelude.{◌≡◌, ℕ, ◌<◌, ◌≤◌, [], ◌∷◌, length, Decides, OnErr, slice_index_or};
 ghost use Rattle.std.specs.List.{AllByRecursion};
 ghost use Rattle.terms.specs.Refusals.{Answers, told};
 ghost use Rattle.worlds.specs.Worlds.{Successor};
@@ -98,7 +98,7 @@ impl<'a> EntryTable<'a> {
     /// One more than the number of the link before link `i` from the same element, or 0.
     fn link_before(&self, i: usize) -> usize
         requires { i < length self.now.links.now }
-        ensures { result ≡ latest self.now.links.now (get_or self.now.links.now i no_link).from i }
+        ensures { result ≡ latest self.now.links.now (slice_index_or self.now.links.now i no_link).from i }
     {
         usize::from(self.chains.previous.items[i])
     }
