@@ -1,5 +1,5 @@
 -- The plain book leaves no answer open.
-use Rattle.std.proofs.Common.{◌≡◌, ℕ, zero, suc, ◌+◌, ◌<◌, ◌≤◌, min, List, [], ◌∷◌, length, get_or, take, Option, Result, sym, refl, ap, ◌∙◌, subst, arith, take_all}
+use Rattle.std.proofs.Common.{◌≡◌, ℕ, zero, suc, ◌<◌, ◌≤◌, min, List, [], ◌∷◌, length, get_or, take, Option, Result, sym, refl, ap, ◌∙◌, subst, arith, take_all}
 use Rattle.terms.specs.Refusals.{told, Answers}
 use Rattle.terms.specs.declared.axioms.Axiom.{Axiom}
 use Rattle.terms.specs.declared.refusals.Fault.{Fault}

@@ -1,5 +1,5 @@
 //! Runs in the hands of a caller who chooses each call after what it heard.
-ghost use Rattle.std.specs.Prelude.{◌≡◌, min, [], length, take};
+ghost use Rattle.std.specs.Prelude.{◌≡◌, min, [], length, take, drop};
 ghost use Rattle.sources.specs.Meanings.{Limits};
 ghost use Rattle.book.specs.Owned.{whole_of};
 ghost use Rattle.runs.specs.Calls.{lent, ShownBy};
@@ -38,6 +38,7 @@ pub fn converse<'a, S: Source + Drop, C: Caller<'a>>(
 ) -> usize
     requires { Limits (S.Source.meaning source) }
     ensures made { result ≡ min (length calls.old) (length heard.old) }
+    ensures rest { (drop result calls.new ≡ drop result calls.old) × (drop result heard.new ≡ drop result heard.old) }
     ensures law { Lawful (S.Source.meaning source) (lent contexts.old clauses.old model.old) [] (take result calls.new) (take result heard.new) }
 {
     let count = calls.len().min(heard.len());

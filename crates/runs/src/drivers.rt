@@ -1,5 +1,5 @@
 //! Runs of calls on a new book.
-ghost use Rattle.std.specs.Prelude.{◌≡◌, min, [], length, take};
+ghost use Rattle.std.specs.Prelude.{◌≡◌, min, [], length, take, drop};
 ghost use Rattle.sources.specs.Meanings.{Limits};
 ghost use Rattle.runs.specs.Calls.{lent};
 ghost use Rattle.runs.specs.Law.{Lawful, LastShown};
@@ -23,6 +23,7 @@ pub fn life<S: Source + Drop>(
 ) -> usize
     requires { Limits (S.Source.meaning source) }
     ensures made { result ≡ min (length calls.now) (length heard.old) }
+    ensures rest { drop result heard.new ≡ drop result heard.old }
     ensures law { Lawful (S.Source.meaning source) (lent contexts.old clauses.old model.old) [] (take result calls.now) (take result heard.new) }
     ensures shown { LastShown (S.Source.meaning source) [] (take result calls.now) (take result heard.new) model.new }
 {

@@ -1,5 +1,5 @@
 //! One call.
-ghost use Rattle.std.specs.Prelude.{◌≡◌, ◌≤◌, length, take};
+ghost use Rattle.std.specs.Prelude.{◌≡◌, ◌≤◌, length, take, drop};
 ghost use Rattle.terms.specs.Refusals.{Answers, told};
 ghost use Rattle.sources.specs.Meanings.{Limits};
 ghost use Rattle.worlds.specs.Models.{model_world, model_checks};
@@ -127,6 +127,7 @@ pub fn replay<S: Source>(
     requires room { length calls.now ≤ length heard.old }
     ensures run { Run (S.Source.meaning book.old.source) (lent contexts.old clauses.old model.old) (own_of book.old)
         calls.now (take (length calls.now) heard.new) (own_of book.new) }
+    ensures rest { drop (length calls.now) heard.new ≡ drop (length calls.now) heard.old }
     ensures shown { LastShown (S.Source.meaning book.old.source) (own_of book.old) calls.now (take (length calls.now) heard.new) model.new }
     ensures over { book.new.source ≡ book.old.source }
     ensures keeps { Limits (whole_of S.Source.meaning book.new) }

@@ -1,4 +1,5 @@
 use Rattle.std.proofs.Common.{sym, refl, ap, ◌∙◌, subst, arith}
+use Rattle.std.proofs.lemmas.List.{drop-set-lt}
 use Rattle.book.specs.Books.{book_meaning}
 use Rattle.book.specs.Owned.{own_of}
 use Rattle.runs.specs.Calls.{lent, no_calls, ShownBy}
@@ -6,7 +7,7 @@ use Rattle.runs.proofs.Running.{answered_lent, run_both, shown_after, converses}
 use Rattle.runs.proofs.callers.converse.Goals as goal
 
 pub loop-i-init : goal.loop-i-init
-loop-i-init g c = (c.new-book.ensures.keeps, refl, no_calls, refl, refl, refl)
+loop-i-init g c = (c.new-book.ensures.keeps, refl, no_calls, refl, refl, refl, refl, refl)
 
 pub hear-requires : goal.hear-requires
 hear-requires g c =
@@ -35,12 +36,15 @@ loop-i-preserved g c =
       c.serve-answer.auto.contexts ∙ c.call-call.auto.contexts ∙ i.3,
       c.serve-answer.auto.clauses ∙ c.call-call.auto.clauses ∙ i.4,
       c.serve-answer.auto.model ∙ c.call-call.auto.model ∙ i.5,
+      drop-set-lt c.min-count.result c.loop-i.calls c.loop-i.i c.call-call.result t ∙ i.6,
+      drop-set-lt c.min-count.result c.loop-i.heard c.loop-i.i c.serve-answer.result t ∙ i.7,
     )
 
 pub returns : goal.returns
 returns g c =
     record {
       made = c.min-count.ensures;
+      rest = (c.loop-i.invariant.6, c.loop-i.invariant.7);
       law = converses (g.S.Source.meaning c.args.source) (g.S.Source.meaning c.new-book.result.source) (lent c.args.contexts.now c.args.clauses.now c.args.model.now) (own_of c.new-book.result) c.loop-i.calls c.loop-i.heard c.loop-i.i c.min-count.result
           (ap g.S.Source.meaning c.new-book.ensures.over) c.new-book.ensures.none (omega arith) c.loop-i.invariant.2;
     }

@@ -1,5 +1,5 @@
 use Rattle.std.proofs.Common.{◌≡◌, length, take, refl, ap, ◌∙◌, subst, arith}
-use Rattle.std.proofs.lemmas.List.{take_all}
+use Rattle.std.proofs.lemmas.List.{take_all, drop-set-lt}
 use Rattle.book.specs.Owned.{own_of}
 use Rattle.book.specs.Books.{book_meaning}
 use Rattle.runs.specs.Law.{LastShown}
@@ -11,7 +11,7 @@ pub serve-requires : goal.serve-requires
 serve-requires g c = c.loop-i.invariant.0
 
 pub loop-i-init : goal.loop-i-init
-loop-i-init g c = (c.requires.limits, refl, no_calls, refl, refl, refl, last_none (g.S.Source.meaning c.args.book.now.source) _ _)
+loop-i-init g c = (c.requires.limits, refl, no_calls, refl, refl, refl, last_none (g.S.Source.meaning c.args.book.now.source) _ _, refl)
 
 pub loop-i-preserved : goal.loop-i-preserved
 loop-i-preserved g c =
@@ -23,6 +23,7 @@ loop-i-preserved g c =
       c.serve.auto.clauses ∙ i.4,
       c.serve.auto.model ∙ i.5,
       last_more _ _ _ _ _ c.args.calls.now c.loop-i.heard c.loop-i.i _ c.serve.result _ (ap (λ s. book_meaning (g.S.Source.meaning s) (own_of c.loop-i.book)) i.1) (omega arith) (omega arith) i.2 c.serve.ensures.shown,
+      drop-set-lt (length c.args.calls.now) c.loop-i.heard c.loop-i.i c.serve.result (omega arith) ∙ i.7,
     )
 
 pub returns : goal.returns
@@ -38,6 +39,7 @@ returns g c = record {
       let e : c.loop-i.i ≡ length c.args.calls.now = omega arith in
       subst (λ n. LastShown m (own_of c.args.book.now) c.args.calls.now (take n c.loop-i.heard) c.loop-i.model) e
       (subst (λ cs. LastShown m (own_of c.args.book.now) cs (take c.loop-i.i c.loop-i.heard) c.loop-i.model) (take_all c.loop-i.i c.args.calls.now (omega arith)) c.loop-i.invariant.6);
+  rest = c.loop-i.invariant.7;
   over = c.loop-i.invariant.1;
   keeps = c.loop-i.invariant.0;
 }

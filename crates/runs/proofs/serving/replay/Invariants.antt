@@ -1,4 +1,4 @@
-use Rattle.std.proofs.Common.{◌≡◌, length, take}
+use Rattle.std.proofs.Common.{◌≡◌, length, take, drop}
 use Rattle.sources.specs.Meanings.{Limits}
 use Rattle.book.specs.Owned.{own_of, whole_of}
 use Rattle.runs.specs.Calls.{lent, Run}
@@ -12,3 +12,4 @@ invariant-loop-i g l =
     × Run (g.S.Source.meaning l.initial.book.source) (lent l.initial.contexts l.initial.clauses l.initial.model) (own_of l.initial.book) (take l.i l.calls) (take l.i l.heard) (own_of l.book)
     × (length l.contexts ≡ length l.initial.contexts) × (length l.clauses ≡ length l.initial.clauses) × (length l.model ≡ length l.initial.model)
     × LastShown (g.S.Source.meaning l.initial.book.source) (own_of l.initial.book) (take l.i l.calls) (take l.i l.heard) l.model
+    × (drop (length l.calls) l.heard ≡ drop (length l.calls) l.initial.heard)
