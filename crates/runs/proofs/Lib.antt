@@ -1,3 +1,4 @@
 pub mod Lending
 pub mod Running
 pub mod Pinned
+pub mod Leaving

@@ -78,7 +78,7 @@ own_left own cs hs c h i e l =
     ap (λ ds. own_after own ds (take i (hs ++ h ∷ []))) (take-append-le i cs (c ∷ []) l) ∙ ap (λ ks. own_after own (take i cs) ks) (take-append-le i hs (h ∷ []) (omega arith))
 
 -- and when the last was
-own_last : (own : List Axiom) (cs : List Call) (hs : List Heard) (c : Call) (h : Heard) → length cs ≡ length hs → own_at own (cs ++ c ∷ []) (hs ++ h ∷ []) (length cs) ≡ own_after own cs hs
+pub own_last : (own : List Axiom) (cs : List Call) (hs : List Heard) (c : Call) (h : Heard) → length cs ≡ length hs → own_at own (cs ++ c ∷ []) (hs ++ h ∷ []) (length cs) ≡ own_after own cs hs
 own_last own cs hs c h e =
     ap (λ ds. own_after own ds (take (length cs) (hs ++ h ∷ []))) (take-append_seam cs (c ∷ [])) ∙ ap (λ n. own_after own cs (take n (hs ++ h ∷ []))) e ∙ ap (λ ks. own_after own cs ks) (take-append_seam hs (h ∷ []))
 
@@ -149,33 +149,11 @@ run_joined {m} {l} {own} {cs = cs} {hs = hs} p (one_more mid last c h ds ks q a)
     subst (λ zs. Run m l own zs (hs ++ (ks ++ h ∷ [])) last) (append_assoc cs ds (c ∷ []))
     (subst (λ zs. Run m l own ((cs ++ ds) ++ c ∷ []) zs last) (append_assoc hs ks (h ∷ [])) (one_more mid last c h (cs ++ ds) (hs ++ ks) (run_joined p q) a))
 
--- the last call of the lists that a loop fills
-pub last_none : (m : Meaning) (own : List Axiom) (model : List ℕ) → LastShown m own [] [] model
-last_none m own model i c h e a = absurd (omega arith)
-
-pub last_more : (m n : Meaning) (l : Lent) (own later : List Axiom) (calls : List Call) (heard : List Heard) (i : ℕ) (d : Call) (h : Heard) (model : List ℕ)
-    → n ≡ book_meaning m later → i < length calls → i < length heard → Run m l own (take i calls) (take i heard) later → ShownBy n (get_or calls i d) h model
-    → LastShown m own (take (i + 1) calls) (take (i + 1) (set heard i h)) model
-last_more m n l own later calls heard i d h model e lc lh r s =
-    subst (λ cs. LastShown m own cs (take (i + 1) (set heard i h)) model) (sym (take_more calls i d lc))
-    (subst (λ hs. LastShown m own (take i calls ++ get_or calls i d ∷ []) hs model) (sym (take_more_set heard i h lh)) shown)
-  where
-    shown : LastShown m own (take i calls ++ get_or calls i d ∷ []) (take i heard ++ h ∷ []) model
-    shown j c k z a =
-        let b : j ≡ length (take i calls) = omega (arith, length-append (take i calls) (get_or calls i d ∷ [])) in
-        let x = sym (get_or-append-add (take i calls) (get_or calls i d ∷ []) 0 d) ∙ ap (λ o. get_or (take i calls ++ get_or calls i d ∷ []) o d) (omega arith) ∙ a.call d in
-        let y = sym (get_or-append-add (take i heard) (h ∷ []) 0 h) ∙ ap (λ o. get_or (take i heard ++ h ∷ []) o h) (let q = run_lengths r in omega arith) ∙ a.heard h in
-        let o = ap (book_meaning m) (run_own r ∙ sym (own_last own (take i calls) (take i heard) (get_or calls i d) h (run_lengths r)) ∙ ap (own_at own (take i calls ++ get_or calls i d ∷ []) (take i heard ++ h ∷ [])) (sym b)) in
-        subst (λ u. ShownBy u c k model) (e ∙ o) (subst (λ u. ShownBy n c u model) y (subst (λ u. ShownBy n u h model) x s))
-
 -- ---- the life of a new book
 
 module _ (m n : Meaning) (l : Lent) (own : List Axiom) (calls : List Call) (heard : List Heard) (k : ℕ) (same : n ≡ m) (new : own ≡ []) (made : length (take k calls) ≡ k) where
   pub lives : {later : List Axiom} → Run n l own (take k calls) (take (length (take k calls)) heard) later → Lawful m l [] (take k calls) (take k heard)
   lives {later} r = run_lawful (subst (λ z. Run m l [] (take k calls) (take z heard) later) made (subst (λ z. Run m l z (take k calls) (take (length (take k calls)) heard) later) new (subst (λ z. Run z l own (take k calls) (take (length (take k calls)) heard) later) same r)))
-
-  pub lives_shown : (model : List ℕ) → LastShown n own (take k calls) (take (length (take k calls)) heard) model → LastShown m [] (take k calls) (take k heard) model
-  lives_shown model s = subst (λ z. LastShown m [] (take k calls) (take z heard) model) made (subst (λ z. LastShown m z (take k calls) (take (length (take k calls)) heard) model) new (subst (λ z. LastShown z own (take k calls) (take (length (take k calls)) heard) model) same s))
 
 -- ---- a caller who chooses each call
 

@@ -4,6 +4,7 @@ ghost use Rattle.sources.specs.Meanings.{Limits};
 ghost use Rattle.book.specs.Owned.{whole_of};
 ghost use Rattle.runs.specs.Calls.{lent, ShownBy};
 ghost use Rattle.runs.specs.Law.{Lawful};
+ghost use Rattle.runs.specs.Tables.{slots, Rewritten, Left};
 
 use crate::calls::{Call, Heard};
 use crate::serving::serve;
@@ -40,6 +41,8 @@ pub fn converse<'a, S: Source + Drop, C: Caller<'a>>(
     ensures made { result ≡ min (length calls.old) (length heard.old) }
     ensures rest { (drop result calls.new ≡ drop result calls.old) × (drop result heard.new ≡ drop result heard.old) }
     ensures law { Lawful (S.Source.meaning source) (lent contexts.old clauses.old model.old) [] (take result calls.new) (take result heard.new) }
+    ensures tables { Left Rewritten (S.Source.meaning source) [] (slots contexts.old clauses.old model.old)
+        (take result calls.new) (take result heard.new) (slots contexts.new clauses.new model.new) }
 {
     let count = calls.len().min(heard.len());
     let mut book = Book::new(source);

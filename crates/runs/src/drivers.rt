@@ -3,6 +3,7 @@ ghost use Rattle.std.specs.Prelude.{◌≡◌, min, [], length, take, drop};
 ghost use Rattle.sources.specs.Meanings.{Limits};
 ghost use Rattle.runs.specs.Calls.{lent};
 ghost use Rattle.runs.specs.Law.{Lawful, LastShown};
+ghost use Rattle.runs.specs.Tables.{slots, Untouched, Left};
 
 use crate::calls::{Call, Heard};
 use crate::serving::replay;
@@ -25,6 +26,8 @@ pub fn life<S: Source + Drop>(
     ensures made { result ≡ min (length calls.now) (length heard.old) }
     ensures rest { drop result heard.new ≡ drop result heard.old }
     ensures law { Lawful (S.Source.meaning source) (lent contexts.old clauses.old model.old) [] (take result calls.now) (take result heard.new) }
+    ensures tables { Left Untouched (S.Source.meaning source) [] (slots contexts.old clauses.old model.old)
+        (take result calls.now) (take result heard.new) (slots contexts.new clauses.new model.new) }
     ensures shown { LastShown (S.Source.meaning source) [] (take result calls.now) (take result heard.new) model.new }
 {
     let count = calls.len().min(heard.len());

@@ -6,8 +6,8 @@ ghost use Rattle.worlds.specs.Models.{model_world, model_checks};
 ghost use Rattle.worlds.specs.Entries.{entry_world, entry_checks};
 ghost use Rattle.worlds.specs.Audits.{in_world, Audited};
 ghost use Rattle.book.specs.Owned.{own_of, whole_of};
-ghost use Rattle.runs.specs.Calls.{lent, Answered, Run, ShownBy};
-ghost use Rattle.runs.specs.Law.{LastShown};
+ghost use Rattle.runs.specs.Calls.{lent, Answered, Run};
+ghost use Rattle.runs.specs.Tables.{slots, Leaves, Untouched, Left};
 
 use crate::calls::{Call, Heard};
 use book::Book;
@@ -57,7 +57,7 @@ pub fn serve<S: Source>(
 ) -> Heard
     requires { Limits (whole_of S.Source.meaning book.old) }
     ensures plain { Answered (S.Source.meaning book.old.source) (lent contexts.old clauses.old model.old) (own_of book.old) call.entry result (own_of book.new) }
-    ensures shown { ShownBy (whole_of S.Source.meaning book.old) call.entry result model.new }
+    ensures tables { Leaves (whole_of S.Source.meaning book.old) call.entry result (slots contexts.old clauses.old model.old) (slots contexts.new clauses.new model.new) }
     ensures over { book.new.source ≡ book.old.source }
     ensures keeps { Limits (whole_of S.Source.meaning book.new) }
 {
@@ -128,7 +128,8 @@ pub fn replay<S: Source>(
     ensures run { Run (S.Source.meaning book.old.source) (lent contexts.old clauses.old model.old) (own_of book.old)
         calls.now (take (length calls.now) heard.new) (own_of book.new) }
     ensures rest { drop (length calls.now) heard.new ≡ drop (length calls.now) heard.old }
-    ensures shown { LastShown (S.Source.meaning book.old.source) (own_of book.old) calls.now (take (length calls.now) heard.new) model.new }
+    ensures tables { Left Untouched (S.Source.meaning book.old.source) (own_of book.old) (slots contexts.old clauses.old model.old)
+        calls.now (take (length calls.now) heard.new) (slots contexts.new clauses.new model.new) }
     ensures over { book.new.source ≡ book.old.source }
     ensures keeps { Limits (whole_of S.Source.meaning book.new) }
 {

@@ -1,18 +1,20 @@
-use Rattle.std.proofs.Common.{sym, refl, ap, ◌∙◌, subst, arith}
+use Rattle.std.proofs.Common.{take, ◌≡◌, sym, refl, ap, ◌∙◌, subst, arith}
 use Rattle.std.proofs.lemmas.List.{drop-set-lt}
 use Rattle.book.specs.Books.{book_meaning}
 use Rattle.book.specs.Owned.{own_of}
 use Rattle.runs.specs.Calls.{lent, no_calls, ShownBy}
+use Rattle.runs.specs.Tables.{Rewritten, as_found}
+use Rattle.runs.proofs.Leaving.{leaves_shown, left_both, left_new}
 use Rattle.runs.proofs.Running.{answered_lent, run_both, shown_after, converses}
 use Rattle.runs.proofs.callers.converse.Goals as goal
 
 pub loop-i-init : goal.loop-i-init
-loop-i-init g c = (c.new-book.ensures.keeps, refl, no_calls, refl, refl, refl, refl, refl)
+loop-i-init g c = (c.new-book.ensures.keeps, refl, no_calls, refl, refl, refl, as_found, refl, refl)
 
 pub hear-requires : goal.hear-requires
 hear-requires g c =
     let e = c.serve-answer.ensures in
-    let s = shown_after _ _ _ _ _ _ c.serve-answer.new.model e.plain e.shown in
+    let s = shown_after _ _ _ _ _ _ c.serve-answer.new.model e.plain (leaves_shown _ _ _ _ _ e.tables) in
     λ k. ((refl, tt), subst (λ x. ShownBy (book_meaning (g.S.Source.meaning x) (own_of c.serve-answer.new.book)) c.call-call.result c.serve-answer.result c.serve-answer.new.model) (sym e.over) s)
 
 pub bounds-calls-i : goal.bounds-calls-i
@@ -36,15 +38,20 @@ loop-i-preserved g c =
       c.serve-answer.auto.contexts ∙ c.call-call.auto.contexts ∙ i.3,
       c.serve-answer.auto.clauses ∙ c.call-call.auto.clauses ∙ i.4,
       c.serve-answer.auto.model ∙ c.call-call.auto.model ∙ i.5,
-      drop-set-lt c.min-count.result c.loop-i.calls c.loop-i.i c.call-call.result t ∙ i.6,
-      drop-set-lt c.min-count.result c.loop-i.heard c.loop-i.i c.serve-answer.result t ∙ i.7,
+      left_both Rewritten _ _ _ _ _ _ _ _ _ c.loop-i.calls c.loop-i.heard c.loop-i.i c.call-call.result c.serve-answer.result (omega (arith, t, n, x)) (omega (arith, t, n, y)) (ap (λ s. book_meaning (g.S.Source.meaning s) (own_of c.loop-i.book)) i.1) i.2 i.6
+          (c.call-call.auto.contexts, c.call-call.auto.clauses, c.call-call.auto.model) e.tables,
+      drop-set-lt c.min-count.result c.loop-i.calls c.loop-i.i c.call-call.result t ∙ i.7,
+      drop-set-lt c.min-count.result c.loop-i.heard c.loop-i.i c.serve-answer.result t ∙ i.8,
     )
 
 pub returns : goal.returns
 returns g c =
     record {
       made = c.min-count.ensures;
-      rest = (c.loop-i.invariant.6, c.loop-i.invariant.7);
+      rest = (c.loop-i.invariant.7, c.loop-i.invariant.8);
       law = converses (g.S.Source.meaning c.args.source) (g.S.Source.meaning c.new-book.result.source) (lent c.args.contexts.now c.args.clauses.now c.args.model.now) (own_of c.new-book.result) c.loop-i.calls c.loop-i.heard c.loop-i.i c.min-count.result
           (ap g.S.Source.meaning c.new-book.ensures.over) c.new-book.ensures.none (omega arith) c.loop-i.invariant.2;
+      tables =
+          let e : c.loop-i.i ≡ c.min-count.result = omega arith in
+          left_new Rewritten (g.S.Source.meaning c.args.source) (g.S.Source.meaning c.new-book.result.source) (own_of c.new-book.result) _ _ _ _ _ _ (ap g.S.Source.meaning c.new-book.ensures.over) c.new-book.ensures.none (ap (λ z. take z c.loop-i.calls) e) (ap (λ z. take z c.loop-i.heard) e) c.loop-i.invariant.6;
     }

@@ -2,16 +2,17 @@ use Rattle.std.proofs.Common.{◌≡◌, length, take, refl, ap, ◌∙◌, subs
 use Rattle.std.proofs.lemmas.List.{take_all, drop-set-lt}
 use Rattle.book.specs.Owned.{own_of}
 use Rattle.book.specs.Books.{book_meaning}
-use Rattle.runs.specs.Law.{LastShown}
+use Rattle.runs.specs.Tables.{slots, Untouched, Left, as_found}
 use Rattle.runs.specs.Calls.{lent, Run, no_calls}
-use Rattle.runs.proofs.Running.{run_more, answered_lent, last_none, last_more}
+use Rattle.runs.proofs.Running.{run_more, answered_lent}
+use Rattle.runs.proofs.Leaving.{left_more}
 use Rattle.runs.proofs.serving.replay.Goals as goal
 
 pub serve-requires : goal.serve-requires
 serve-requires g c = c.loop-i.invariant.0
 
 pub loop-i-init : goal.loop-i-init
-loop-i-init g c = (c.requires.limits, refl, no_calls, refl, refl, refl, last_none (g.S.Source.meaning c.args.book.now.source) _ _, refl)
+loop-i-init g c = (c.requires.limits, refl, no_calls, refl, refl, refl, as_found, refl)
 
 pub loop-i-preserved : goal.loop-i-preserved
 loop-i-preserved g c =
@@ -22,7 +23,7 @@ loop-i-preserved g c =
       c.serve.auto.contexts ∙ i.3,
       c.serve.auto.clauses ∙ i.4,
       c.serve.auto.model ∙ i.5,
-      last_more _ _ _ _ _ c.args.calls.now c.loop-i.heard c.loop-i.i _ c.serve.result _ (ap (λ s. book_meaning (g.S.Source.meaning s) (own_of c.loop-i.book)) i.1) (omega arith) (omega arith) i.2 c.serve.ensures.shown,
+      left_more Untouched _ _ _ _ _ _ _ _ _ c.args.calls.now c.loop-i.heard c.loop-i.i _ c.serve.result (omega arith) (omega arith) (ap (λ s. book_meaning (g.S.Source.meaning s) (own_of c.loop-i.book)) i.1) i.2 i.6 refl c.serve.ensures.tables,
       drop-set-lt (length c.args.calls.now) c.loop-i.heard c.loop-i.i c.serve.result (omega arith) ∙ i.7,
     )
 
@@ -34,11 +35,13 @@ returns g c = record {
       let e : c.loop-i.i ≡ length c.args.calls.now = omega arith in
       subst (λ n. Run m l (own_of c.args.book.now) c.args.calls.now (take n c.loop-i.heard) (own_of c.loop-i.book)) e
       (subst (λ cs. Run m l (own_of c.args.book.now) cs (take c.loop-i.i c.loop-i.heard) (own_of c.loop-i.book)) (take_all c.loop-i.i c.args.calls.now (omega arith)) c.loop-i.invariant.2);
-  shown =
+  tables =
       let m = g.S.Source.meaning c.args.book.now.source in
+      let s = slots c.args.contexts.now c.args.clauses.now c.args.model.now in
+      let u = slots c.loop-i.contexts c.loop-i.clauses c.loop-i.model in
       let e : c.loop-i.i ≡ length c.args.calls.now = omega arith in
-      subst (λ n. LastShown m (own_of c.args.book.now) c.args.calls.now (take n c.loop-i.heard) c.loop-i.model) e
-      (subst (λ cs. LastShown m (own_of c.args.book.now) cs (take c.loop-i.i c.loop-i.heard) c.loop-i.model) (take_all c.loop-i.i c.args.calls.now (omega arith)) c.loop-i.invariant.6);
+      subst (λ n. Left Untouched m (own_of c.args.book.now) s c.args.calls.now (take n c.loop-i.heard) u) e
+      (subst (λ cs. Left Untouched m (own_of c.args.book.now) s cs (take c.loop-i.i c.loop-i.heard) u) (take_all c.loop-i.i c.args.calls.now (omega arith)) c.loop-i.invariant.6);
   rest = c.loop-i.invariant.7;
   over = c.loop-i.invariant.1;
   keeps = c.loop-i.invariant.0;
