@@ -1,7 +1,6 @@
 -- What a run leaves in its tables.
-use Rattle.std.proofs.Common.{◌≡◌, ℕ, suc, ◌+◌, ◌<◌, List, [], ◌∷◌, ◌++◌, length, get_or, take, set, Some, None, Ok, Err, Option, Result, sym, refl, ap, ◌∙◌, subst, arith, length-append}
-use Rattle.std.proofs.lemmas.List.{take_more, take_more_set, get_or-append-add}
-use Rattle.terms.specs.Refusals.{told}
+use Rattle.std.proofs.Common.{◌≡◌, ◌+◌, List, [], ◌∷◌, ◌++◌, length, get_or, take, Some, None, sym, refl, ap, ◌∙◌, subst, arith, length-append}
+use Rattle.std.proofs.lemmas.List.{get_or-append-add}
 use Rattle.terms.specs.declared.axioms.Axiom.{Axiom}
 use Rattle.sources.specs.Meanings.{Meaning}
 use Rattle.book.specs.Books.{book_meaning}
@@ -10,7 +9,7 @@ use Rattle.runs.specs.declared.calls.Call.TheVariants as call
 use Rattle.runs.specs.declared.calls.Heard.{Heard}
 use Rattle.runs.specs.declared.calls.Heard.TheVariants as heard
 use Rattle.runs.specs.Calls.{Lent, Run, ShownBy}
-use Rattle.runs.specs.Law.{own_after, own_at, At, LastShown}
+use Rattle.runs.specs.Law.{own_after, own_at, LastShown}
 use Rattle.runs.specs.Tables.{Slots, Leaves, Left, as_found, by_one_more}
 use Rattle.runs.proofs.Lending.{shown_ask}
 use Rattle.runs.proofs.Running.{run_own, own_last}
@@ -33,23 +32,11 @@ module _ (Between : Slots → Slots → Type 0) where
   left_lengths (by_one_more u v w c h cs hs x b y) = length-append cs (c ∷ []) ∙ ap (λ n. n + 1) (left_lengths x) ∙ sym (length-append hs (h ∷ []))
 
   -- one more call, where n is what the book means then
-  left_one_more : (m n : Meaning) (l : Lent) (own later : List Axiom) (s u v w : Slots) (c : Call) (h : Heard) (cs ds : List Call) (hs ks : List Heard) → ds ≡ cs ++ c ∷ [] → ks ≡ hs ++ h ∷ []
+  pub left_on : (m n : Meaning) (l : Lent) (own later : List Axiom) (s u v w : Slots) (c : Call) (h : Heard) (cs ds : List Call) (hs ks : List Heard) → ds ≡ cs ++ c ∷ [] → ks ≡ hs ++ h ∷ []
       → n ≡ book_meaning m later → Run m l own cs hs later → Left Between m own s cs hs u → Between u v → Leaves n c h v w → Left Between m own s ds ks w
-  left_one_more m n l own later s u v w c h cs ds hs ks p q e r x b y =
+  left_on m n l own later s u v w c h cs ds hs ks p q e r x b y =
       subst (λ zs. Left Between m own s zs ks w) (sym p) (subst (λ zs. Left Between m own s (cs ++ c ∷ []) zs w) (sym q)
       (by_one_more u v w c h cs hs x b (subst (λ z. Leaves z c h v w) (e ∙ ap (book_meaning m) (run_own r)) y)))
-
-  -- in a list of what is heard that a loop fills
-  pub left_more : (m n : Meaning) (l : Lent) (own later : List Axiom) (s u v w : Slots) (calls : List Call) (heard : List Heard) (i : ℕ) (d : Call) (h : Heard) → i < length calls → i < length heard
-      → n ≡ book_meaning m later → Run m l own (take i calls) (take i heard) later → Left Between m own s (take i calls) (take i heard) u → Between u v → Leaves n (get_or calls i d) h v w
-      → Left Between m own s (take (i + 1) calls) (take (i + 1) (set heard i h)) w
-  left_more m n l own later s u v w calls heard i d h lc lh = left_one_more m n l own later s u v w (get_or calls i d) h (take i calls) (take (i + 1) calls) (take i heard) (take (i + 1) (set heard i h)) (take_more calls i d lc) (take_more_set heard i h lh)
-
-  -- in two lists that a loop fills
-  pub left_both : (m n : Meaning) (l : Lent) (own later : List Axiom) (s u v w : Slots) (calls : List Call) (heard : List Heard) (i : ℕ) (c : Call) (h : Heard) → i < length calls → i < length heard
-      → n ≡ book_meaning m later → Run m l own (take i calls) (take i heard) later → Left Between m own s (take i calls) (take i heard) u → Between u v → Leaves n c h v w
-      → Left Between m own s (take (i + 1) (set calls i c)) (take (i + 1) (set heard i h)) w
-  left_both m n l own later s u v w calls heard i c h lc lh = left_one_more m n l own later s u v w c h (take i calls) (take (i + 1) (set calls i c)) (take i heard) (take (i + 1) (set heard i h)) (take_more_set calls i c lc) (take_more_set heard i h lh)
 
   -- the last call, if it is an ask with a model table, shows what it has to
   pub left_shown : (m : Meaning) (own : List Axiom) (s u : Slots) (cs : List Call) (hs : List Heard) → Left Between m own s cs hs u → LastShown m own cs hs u.model

@@ -6,16 +6,15 @@ use Rattle.std.proofs.lemmas.Slice.{drop-append-drop}
 use Rattle.std.proofs.lemmas.Bool.{cases_lt}
 use Rattle.terms.specs.Refusals.{Told, told, Answers}
 use Rattle.terms.specs.declared.class_set.ClassSet.{ClassSet}
-use Rattle.terms.specs.declared.axioms.Axiom.{Axiom}
 use Rattle.terms.specs.declared.refusals.Fault.{Fault}
 use Rattle.sources.specs.Meanings.{Meaning}
-use Rattle.closure.specs.Closures.{Context}
 use Rattle.tables.specs.declared.records.ContextRecord.{ContextRecord}
 use Rattle.tables.specs.declared.records.ClauseRecord.{ClauseRecord}
-use Rattle.reasoner.specs.Asks.{in_ask, ask_checks, RoomOf, Right, TablesAfter, ModelAfter}
+use Rattle.reasoner.specs.Asks.{in_ask, goal_of, ask_checks, RoomOf, Right, TablesAfter, ModelAfter}
 use Rattle.reasoner.specs.declared.answer.Answer.{Answer}
 use Rattle.reasoner.specs.declared.answer.Answer.TheVariants.{Nothing, Something}
 use Rattle.runs.specs.Calls.{Lent, words_of, Brings, PlainAsk, ShowsWorld, ShownAsk}
+use Rattle.runs.specs.Tables.{slots, ModelLeft, AskLeaves}
 
 -- so many slots are lent
 pub lent_slots : {X : Type 0} (k r : ℕ) (xs : List X) → r ≡ min k (length xs) → length (take r xs) ≡ min k (length xs)
@@ -46,18 +45,31 @@ module _ {X : Type 0} (k : ℕ) (xs : List X) (n : ℕ) (few : n ≡ min k (leng
   pub lent_rest : (ys : List X) → length ys ≡ n → drop k (ys ++ drop n xs) ≡ drop k xs
   lent_rest ys e = drop-append-drop n xs ys k (omega (arith, few)) e
 
--- what an ask promises of the slots that it was lent, said of the leading slots of the whole tables
-pub tables_left : (axs : List Axiom) (G : Context) (t : Told Answer) {xs xs' us us' : List ContextRecord} {ys ys' vs vs' : List ClauseRecord}
-    → xs ≡ xs' → ys ≡ ys' → us ≡ us' → vs ≡ vs' → TablesAfter axs G xs ys us vs t → TablesAfter axs G xs' ys' us' vs' t
-tables_left axs G t {xs} {xs'} {us} {us'} {ys} {ys'} {vs} {vs'} p q r o h =
-    subst (λ z. TablesAfter axs G z ys' us' vs' t) p (subst (λ z. TablesAfter axs G xs z us' vs' t) q (subst (λ z. TablesAfter axs G xs ys z vs' t) r (subst (λ z. TablesAfter axs G xs ys us z t) o h)))
+-- what an ask promises of what it was lent, said of the whole tables
+pub ask_left : (b : Meaning) (P N : ClassSet) (k j : ℕ) (words : Option ℕ) (t : Told Answer) (xs : List ContextRecord) (ys : List ClauseRecord) (zs ws : List ℕ) (n o : ℕ) (us : List ContextRecord) (vs : List ClauseRecord)
+    → n ≡ min k (length xs) → o ≡ min j (length ys) → length us ≡ n → length vs ≡ o → TablesAfter b.axioms (goal_of P N) (take n xs) (take o ys) us vs t → ModelLeft b P N words t zs ws
+    → AskLeaves b P N k j words t (slots xs ys zs) (slots (us ++ drop n xs) (vs ++ drop o ys) ws)
+ask_left b P N k j words t xs ys zs ws n o us vs few some lx ly h m = record {
+  tables =
+      let u = us ++ drop n xs in
+      let v = vs ++ drop o ys in
+      let G = goal_of P N in
+      subst (λ z. TablesAfter b.axioms G z (take j ys) (take k u) (take j v) t) (lent_front k xs n few)
+      (subst (λ z. TablesAfter b.axioms G (take n xs) z (take k u) (take j v) t) (lent_front j ys o some)
+      (subst (λ z. TablesAfter b.axioms G (take n xs) (take o ys) z (take j v) t) (sym (lent_part k xs n few us lx))
+      (subst (λ z. TablesAfter b.axioms G (take n xs) (take o ys) us z t) (sym (lent_part j ys o some vs ly)) h)));
+  other_contexts = lent_rest k xs n few us lx;
+  other_clauses = lent_rest j ys o some vs ly;
+  model = m;
+}
 
-pub model_left : (b : Meaning) (P N : ClassSet) (t : Told Answer) {zs zs' ws ws' : List ℕ} → zs ≡ zs' → ws ≡ ws' → ModelAfter b P N zs ws t → ModelAfter b P N zs' ws' t
-model_left b P N t {zs} {zs'} {ws} {ws'} p q h = subst (λ z. ModelAfter b P N z ws' t) p (subst (λ z. ModelAfter b P N zs z t) q h)
+pub model_left : (b : Meaning) (P N : ClassSet) (w : ℕ) (t : Told Answer) (zs : List ℕ) (n : ℕ) (ws : List ℕ) → n ≡ min w (length zs) → length ws ≡ n → ModelAfter b P N (take n zs) ws t → ModelLeft b P N (Some w) t zs (ws ++ drop n zs)
+model_left b P N w t zs n ws few l h =
+    (subst (λ z. ModelAfter b P N z (take w (ws ++ drop n zs)) t) (lent_front w zs n few) (subst (λ z. ModelAfter b P N (take n zs) z t) (sym (lent_part w zs n few ws l)) h), lent_rest w zs n few ws l)
 
 pub shown_ask : (b : Meaning) (P N : ClassSet) (w : ℕ) (r : Result Answer Fault) (before whole : List ℕ) {after : List ℕ} → take w whole ≡ after → ModelAfter b P N before after (told r) → ShownAsk b P N (Some w) r whole
 shown_ask b P N w (Ok (Nothing counts)) before whole e h = tt
 shown_ask b P N w (Ok (Something counts None)) before whole e h = tt
 shown_ask b P N w (Ok (Something counts (Some n))) before whole e h =
-    subst (λ zs. ShowsWorld b.axioms b.roles P N n zs) (sym e) (record { some_element = h.some_element; obeys = h.obeys; held = h.held; denied = h.denied })
+    subst (λ zs. ShowsWorld b.axioms b.roles P N counts n zs) (sym e) (record { some_element = h.some_element; few = h.few; obeys = h.obeys; held = h.held; denied = h.denied })
 shown_ask b P N w (Err f) before whole e h = tt

@@ -1,7 +1,7 @@
 -- The law, of every run: by going from its end to its beginning.
-use Rattle.std.proofs.Common.{◌≡◌, ℕ, suc, ◌+◌, ◌<◌, ◌≤◌, min, ◌⊎◌, ◌↔◌, List, [], ◌∷◌, ◌++◌, length, get_or, take, set, Ok, Err, Option, Result, sym, refl, ap, ◌∙◌, subst, inl, inr, ⊎_elim, append_assoc, append-nil, arith, length-append, take_all}
+use Rattle.std.proofs.Common.{◌≡◌, ℕ, suc, ◌+◌, ◌<◌, ◌≤◌, min, ◌⊎◌, ◌↔◌, List, [], ◌∷◌, ◌++◌, length, get_or, take, Ok, Err, Option, Result, sym, refl, ap, ◌∙◌, subst, inl, inr, ⊎_elim, append_assoc, append-nil, arith, length-append, take_all}
 use lib.Seq.{take-append-le, take-append_seam}
-use Rattle.std.proofs.lemmas.List.{take_more, take_more_set, get_or_append_left, get_or-append-add}
+use Rattle.std.proofs.lemmas.List.{get_or_append_left, get_or-append-add}
 use Rattle.std.proofs.lemmas.Bool.{cases_lt}
 use Rattle.terms.specs.Refusals.{Told, done, refused, told, Passes, FirstFailing, Answers}
 use Rattle.terms.specs.declared.class_set.ClassSet.{ClassSet}
@@ -19,15 +19,13 @@ use Rattle.runs.specs.declared.calls.Call.TheVariants as call
 use Rattle.runs.specs.declared.calls.Heard.{Heard}
 use Rattle.runs.specs.declared.calls.Heard.TheVariants as heard
 use Rattle.runs.specs.Calls.{Lent, words_of, PlainAsk, Answered, strikes, adds, amends, asks, audits_model, audits_entries, Run, no_calls, one_more, ShownBy}
-use Rattle.runs.specs.Law.{later_of, own_after, own_at, At, Audits, a_model, entries, Lawful, LastShown}
+use Rattle.runs.specs.Law.{later_of, own_after, own_at, At, Audits, a_model, entries, Lawful}
 
--- one more call in the lists that a loop fills
-pub run_more : (m n : Meaning) (l : Lent) (own later last : List Axiom) (calls : List Call) (heard : List Heard) (i : ℕ) (d : Call) (h : Heard)
-    → n ≡ m → i < length calls → i < length heard → Run m l own (take i calls) (take i heard) later → Answered n l later (get_or calls i d) h last
-    → Run m l own (take (i + 1) calls) (take (i + 1) (set heard i h)) last
-run_more m n l own later last calls heard i d h e lc lh r a =
-    let s = one_more later last (get_or calls i d) h (take i calls) (take i heard) r (subst (λ x. Answered x l later (get_or calls i d) h last) e a) in
-    subst (λ cs. Run m l own cs (take (i + 1) (set heard i h)) last) (sym (take_more calls i d lc)) (subst (λ hs. Run m l own (take i calls ++ get_or calls i d ∷ []) hs last) (sym (take_more_set heard i h lh)) s)
+-- one more call, on a book over a source that means n
+pub run_on : (m n : Meaning) (l : Lent) (own later last : List Axiom) (c : Call) (h : Heard) (cs ds : List Call) (hs ks : List Heard) → ds ≡ cs ++ c ∷ [] → ks ≡ hs ++ h ∷ []
+    → n ≡ m → Run m l own cs hs later → Answered n l later c h last → Run m l own ds ks last
+run_on m n l own later last c h cs ds hs ks p q e r a =
+    subst (λ zs. Run m l own zs ks last) (sym p) (subst (λ zs. Run m l own (cs ++ c ∷ []) zs last) (sym q) (one_more later last c h cs hs r (subst (λ x. Answered x l later c h last) e a)))
 
 -- tables of the same sizes
 pub answered_lent : {m : Meaning} (l n : Lent) {own later : List Axiom} {c : Call} {h : Heard} → l.contexts ≡ n.contexts → l.clauses ≡ n.clauses → l.words ≡ n.words → Answered m l own c h later → Answered m n own c h later
@@ -149,21 +147,10 @@ run_joined {m} {l} {own} {cs = cs} {hs = hs} p (one_more mid last c h ds ks q a)
     subst (λ zs. Run m l own zs (hs ++ (ks ++ h ∷ [])) last) (append_assoc cs ds (c ∷ []))
     (subst (λ zs. Run m l own ((cs ++ ds) ++ c ∷ []) zs last) (append_assoc hs ks (h ∷ [])) (one_more mid last c h (cs ++ ds) (hs ++ ks) (run_joined p q) a))
 
--- ---- the life of a new book
-
-module _ (m n : Meaning) (l : Lent) (own : List Axiom) (calls : List Call) (heard : List Heard) (k : ℕ) (same : n ≡ m) (new : own ≡ []) (made : length (take k calls) ≡ k) where
-  pub lives : {later : List Axiom} → Run n l own (take k calls) (take (length (take k calls)) heard) later → Lawful m l [] (take k calls) (take k heard)
-  lives {later} r = run_lawful (subst (λ z. Run m l [] (take k calls) (take z heard) later) made (subst (λ z. Run m l z (take k calls) (take (length (take k calls)) heard) later) new (subst (λ z. Run z l own (take k calls) (take (length (take k calls)) heard) later) same r)))
-
--- ---- a caller who chooses each call
-
--- one more call in two lists that a loop fills
-pub run_both : (m n : Meaning) (l : Lent) (own later last : List Axiom) (calls : List Call) (heard : List Heard) (i : ℕ) (c : Call) (h : Heard)
-    → n ≡ m → i < length calls → i < length heard → Run m l own (take i calls) (take i heard) later → Answered n l later c h last
-    → Run m l own (take (i + 1) (set calls i c)) (take (i + 1) (set heard i h)) last
-run_both m n l own later last calls heard i c h e lc lh r a =
-    let s = one_more later last c h (take i calls) (take i heard) r (subst (λ x. Answered x l later c h last) e a) in
-    subst (λ cs. Run m l own cs (take (i + 1) (set heard i h)) last) (sym (take_more_set calls i c lc)) (subst (λ hs. Run m l own (take i calls ++ c ∷ []) hs last) (sym (take_more_set heard i h lh)) s)
+-- the law, of a book that is new
+pub lawful_new : (m n : Meaning) (l : Lent) (own later : List Axiom) (cs ds : List Call) (hs ks : List Heard) → n ≡ m → own ≡ [] → cs ≡ ds → hs ≡ ks → Run n l own cs hs later → Lawful m l [] ds ks
+lawful_new m n l own later cs ds hs ks p q r o x =
+    run_lawful (subst (λ z. Run m l [] ds z later) o (subst (λ z. Run m l [] z hs later) r (subst (λ z. Run m l z cs hs later) q (subst (λ z. Run z l own cs hs later) p x))))
 
 -- an ask leaves the own list, so what its table shows is so of the book as it is afterwards
 pub shown_after : (m : Meaning) (l : Lent) (own later : List Axiom) (c : Call) (h : Heard) (model : List ℕ) → Answered m l own c h later → ShownBy (book_meaning m own) c h model → ShownBy (book_meaning m later) c h model
@@ -173,7 +160,3 @@ shown_after m l own later c h model (amends i a r later' p) s = tt
 shown_after m l own later c h model (asks P N k j words r p) s = s
 shown_after m l own later c h model (audits_model words roles size r p) s = tt
 shown_after m l own later c h model (audits_entries classes links r p) s = tt
-
-pub converses : (m n : Meaning) (l : Lent) (own : List Axiom) (calls : List Call) (heard : List Heard) (i k : ℕ) {later : List Axiom} → n ≡ m → own ≡ [] → i ≡ k → Run n l own (take i calls) (take i heard) later → Lawful m l [] (take k calls) (take k heard)
-converses m n l own calls heard i k {later} same new e r =
-    run_lawful (subst (λ z. Run m l [] (take z calls) (take z heard) later) e (subst (λ z. Run m l z (take i calls) (take i heard) later) new (subst (λ z. Run z l own (take i calls) (take i heard) later) same r)))

@@ -1,5 +1,5 @@
 -- The plain book: what it tells of each call, fed with what the call brings, and its own list after it.
-use Rattle.std.specs.Prelude.{ℕ, ◌<◌, min, List, [], ◌∷◌, ◌++◌, length, take, Some, None, Ok, Err, Option, Result}
+use Rattle.std.specs.Prelude.{ℕ, ◌<◌, ◌≤◌, min, List, [], ◌∷◌, ◌++◌, length, take, Some, None, Ok, Err, Option, Result}
 use Rattle.std.specs.Borrow.{Bor}
 use Rattle.terms.specs.Refusals.{Told, told, Answers}
 use Rattle.terms.specs.declared.class_set.ClassSet.{ClassSet}
@@ -14,6 +14,7 @@ use Rattle.worlds.specs.declared.audit.Finding.{Finding}
 use Rattle.worlds.specs.declared.link.Link.{Link}
 use Rattle.tables.specs.declared.records.ContextRecord.{ContextRecord}
 use Rattle.tables.specs.declared.records.ClauseRecord.{ClauseRecord}
+use Rattle.tables.specs.declared.members.Counts.{Counts}
 use Rattle.reasoner.specs.Asks.{in_ask, ask_checks, RoomOf, Right, Unshown, Numbered}
 use Rattle.reasoner.specs.declared.answer.Answer.{Answer}
 use Rattle.reasoner.specs.declared.answer.Answer.TheVariants.{Nothing, Something}
@@ -64,9 +65,10 @@ pub data Run (m : Meaning) (l : Lent) (own : List Axiom) : List Call → List He
 
 -- ---- what a model table shows after a call
 
--- the words show a world of n elements that obeys the axioms, with an element in all of P and in none of N as element 0
-pub record ShowsWorld (axs : List Axiom) (roles : ℕ) (P N : ClassSet) (n : ℕ) (words : List ℕ) : Type 0 where
+-- the words show a world of n elements, no more than there are contexts, that obeys the axioms, with an element in all of P and in none of N as element 0
+pub record ShowsWorld (axs : List Axiom) (roles : ℕ) (P N : ClassSet) (counts : Counts) (n : ℕ) (words : List ℕ) : Type 0 where
   pub some_element : 0 < n
+  pub few : n ≤ counts.contexts
   pub obeys : Obeys (model_world words roles n) axs
   pub held : InAll (model_world words roles n) 0 P.bits
   pub denied : InNone (model_world words roles n) 0 N.bits
@@ -74,7 +76,7 @@ pub record ShowsWorld (axs : List Axiom) (roles : ℕ) (P N : ClassSet) (n : ℕ
 abbrev pub ShownAnswer : Meaning → ClassSet → ClassSet → ℕ → Answer → List ℕ → Type 0
 ShownAnswer b P N w (Nothing counts) model = Unit {0}
 ShownAnswer b P N w (Something counts None) model = Unit {0}
-ShownAnswer b P N w (Something counts (Some n)) model = ShowsWorld b.axioms b.roles P N n (take w model)
+ShownAnswer b P N w (Something counts (Some n)) model = ShowsWorld b.axioms b.roles P N counts n (take w model)
 
 abbrev pub ShownAsk : Meaning → ClassSet → ClassSet → Option ℕ → Result Answer Fault → List ℕ → Type 0
 ShownAsk b P N None r model = Unit {0}

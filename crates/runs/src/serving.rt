@@ -6,15 +6,15 @@ ghost use Rattle.worlds.specs.Models.{model_world, model_checks};
 ghost use Rattle.worlds.specs.Entries.{entry_world, entry_checks};
 ghost use Rattle.worlds.specs.Audits.{in_world, Audited};
 ghost use Rattle.book.specs.Owned.{own_of, whole_of};
-ghost use Rattle.runs.specs.Calls.{lent, Answered, Run};
-ghost use Rattle.runs.specs.Tables.{slots, Leaves, Untouched, Left};
+ghost use Rattle.runs.specs.Calls.{lent, PlainAsk, Answered, Run};
+ghost use Rattle.runs.specs.Tables.{slots, AskLeaves, Leaves, Untouched, Left};
 
 use crate::calls::{Call, Heard};
 use book::Book;
-use reasoner::{ask, ask_model};
+use reasoner::{Answer, ask, ask_model};
 use sources::Source;
 use tables::{ClauseRecord, ContextRecord};
-use terms::Fault;
+use terms::{ClassSet, Fault};
 use worlds::audit::audit;
 use worlds::{EntryTable, Finding, Link, ModelTable};
 
@@ -47,6 +47,36 @@ fn audit_entries<'a, S: Source>(
     Ok(audit(source, &world))
 }
 
+/// Asks with so many context slots, clause slots and, where it shows a world, words from the front of the tables.
+fn ask_with<S: Source>(
+    source: &S,
+    held: ClassSet,
+    denied: ClassSet,
+    few: usize,
+    some: usize,
+    words: Option<usize>,
+    contexts: &mut [ContextRecord],
+    clauses: &mut [ClauseRecord],
+    model: &mut [u64],
+) -> Result<Answer, Fault>
+    requires { Limits (S.Source.meaning source.now) }
+    ensures plain { PlainAsk (S.Source.meaning source.now) (lent contexts.old clauses.old model.old) held denied few some words (told result) }
+    ensures tables { AskLeaves (S.Source.meaning source.now) held denied few some words (told result)
+        (slots contexts.old clauses.old model.old) (slots contexts.new clauses.new model.new) }
+{
+    let few = few.min(contexts.len());
+    let some = some.min(clauses.len());
+    let contexts = &mut contexts[..few];
+    let clauses = &mut clauses[..some];
+    match words {
+        None => ask(source, held, denied, contexts, clauses),
+        Some(words) => {
+            let words = words.min(model.len());
+            ask_model(source, held, denied, contexts, clauses, &mut model[..words])
+        }
+    }
+}
+
 /// Makes one call on the book.
 pub fn serve<S: Source>(
     book: &mut Book<S>,
@@ -77,34 +107,11 @@ pub fn serve<S: Source>(
             contexts: few,
             clauses: some,
             words,
-        } => {
-            let few = few.min(contexts.len());
-            let some = some.min(clauses.len());
-            match words {
-                None => Heard::Asked {
-                    told: ask(
-                        book,
-                        held,
-                        denied,
-                        &mut contexts[..few],
-                        &mut clauses[..some],
-                    ),
-                },
-                Some(words) => {
-                    let words = words.min(model.len());
-                    Heard::Asked {
-                        told: ask_model(
-                            book,
-                            held,
-                            denied,
-                            &mut contexts[..few],
-                            &mut clauses[..some],
-                            &mut model[..words],
-                        ),
-                    }
-                }
-            }
-        }
+        } => Heard::Asked {
+            told: ask_with(
+                book, held, denied, few, some, words, contexts, clauses, model,
+            ),
+        },
         Call::AuditModel { words, roles, size } => Heard::Audited {
             told: audit_model(book, words, roles, size),
         },

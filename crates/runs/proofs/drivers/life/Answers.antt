@@ -2,7 +2,7 @@ use Rattle.std.proofs.Common.{◌≡◌, [], length, take, drop, refl, ap, ◌�
 use Rattle.book.specs.Owned.{own_of}
 use Rattle.runs.specs.Calls.{lent}
 use Rattle.runs.specs.Tables.{slots, Untouched, Left}
-use Rattle.runs.proofs.Running.{lives}
+use Rattle.runs.proofs.Running.{lawful_new}
 use Rattle.runs.proofs.Leaving.{left_new, left_shown}
 use Rattle.runs.proofs.drivers.life.Goals as goal
 
@@ -20,7 +20,7 @@ returns g c =
     record {
       made = c.min-count.ensures;
       rest = subst (λ z. drop z c.replay.new.heard ≡ drop z c.args.heard.now) made c.replay.ensures.rest;
-      law = lives m n (lent c.args.contexts.now c.args.clauses.now c.args.model.now) (own_of c.new-book.result) c.args.calls.now c.replay.new.heard k same c.new-book.ensures.none made c.replay.ensures.run;
+      law = lawful_new m n (lent c.args.contexts.now c.args.clauses.now c.args.model.now) (own_of c.new-book.result) _ _ _ _ _ same c.new-book.ensures.none refl (ap (λ z. take z c.replay.new.heard) made) c.replay.ensures.run;
       tables = left;
       shown = left_shown Untouched m [] s u _ _ left;
     }

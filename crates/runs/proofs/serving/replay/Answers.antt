@@ -1,11 +1,11 @@
 use Rattle.std.proofs.Common.{◌≡◌, length, take, refl, ap, ◌∙◌, subst, arith}
-use Rattle.std.proofs.lemmas.List.{take_all, drop-set-lt}
+use Rattle.std.proofs.lemmas.List.{take_all, take_more, take_more_set, drop-set-lt}
 use Rattle.book.specs.Owned.{own_of}
 use Rattle.book.specs.Books.{book_meaning}
 use Rattle.runs.specs.Tables.{slots, Untouched, Left, as_found}
 use Rattle.runs.specs.Calls.{lent, Run, no_calls}
-use Rattle.runs.proofs.Running.{run_more, answered_lent}
-use Rattle.runs.proofs.Leaving.{left_more}
+use Rattle.runs.proofs.Running.{run_on, answered_lent}
+use Rattle.runs.proofs.Leaving.{left_on}
 use Rattle.runs.proofs.serving.replay.Goals as goal
 
 pub serve-requires : goal.serve-requires
@@ -16,14 +16,15 @@ loop-i-init g c = (c.requires.limits, refl, no_calls, refl, refl, refl, as_found
 
 pub loop-i-preserved : goal.loop-i-preserved
 loop-i-preserved g c =
-    let i = c.loop-i.invariant in (
+    let i = c.loop-i.invariant in
+    let filled = take_more_set c.loop-i.heard c.loop-i.i c.serve.result (omega arith) in (
       c.serve.ensures.keeps,
       c.serve.ensures.over ∙ i.1,
-      run_more _ _ _ _ _ _ c.args.calls.now c.loop-i.heard c.loop-i.i _ c.serve.result (ap g.S.Source.meaning i.1) (omega arith) (omega arith) i.2 (answered_lent _ _ i.3 i.4 i.5 c.serve.ensures.plain),
+      run_on _ _ _ _ _ _ _ _ _ _ _ _ (take_more c.args.calls.now c.loop-i.i _ (omega arith)) filled (ap g.S.Source.meaning i.1) i.2 (answered_lent _ _ i.3 i.4 i.5 c.serve.ensures.plain),
       c.serve.auto.contexts ∙ i.3,
       c.serve.auto.clauses ∙ i.4,
       c.serve.auto.model ∙ i.5,
-      left_more Untouched _ _ _ _ _ _ _ _ _ c.args.calls.now c.loop-i.heard c.loop-i.i _ c.serve.result (omega arith) (omega arith) (ap (λ s. book_meaning (g.S.Source.meaning s) (own_of c.loop-i.book)) i.1) i.2 i.6 refl c.serve.ensures.tables,
+      left_on Untouched _ _ _ _ _ _ _ _ _ _ _ _ _ _ _ (take_more c.args.calls.now c.loop-i.i _ (omega arith)) filled (ap (λ s. book_meaning (g.S.Source.meaning s) (own_of c.loop-i.book)) i.1) i.2 i.6 refl c.serve.ensures.tables,
       drop-set-lt (length c.args.calls.now) c.loop-i.heard c.loop-i.i c.serve.result (omega arith) ∙ i.7,
     )
 
