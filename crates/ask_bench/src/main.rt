@@ -127,17 +127,9 @@ fn answer(
 fn tell(rt: &HostRuntime, office: Office) -> io::Result<()> {
     let heap = rt.alloc();
     let axioms = office.axioms(heap)?;
-    let context = ContextRecord {
-        held: ClassSet::empty(),
-        denied: ClassSet::empty(),
-    };
-    let clause = ClauseRecord {
-        context: 0,
-        classes: ClassSet::empty(),
-        part: None,
-    };
-    let mut contexts = vec![in heap; context; 256]?;
-    let mut clauses = vec![in heap; clause; 4096]?;
+    let mut contexts = vec![in heap; ContextRecord::default(); 256]?;
+    let mut clauses = vec![in heap; ClauseRecord::default(); 4096]?;
+    // One match gives the verdict and the counts, which both cases have.
     let (verdict, counts) = match answer(&axioms, &mut contexts, &mut clauses) {
         Ok(Answer::Nothing { counts }) => ("none", counts),
         Ok(Answer::Something { counts, .. }) => ("some", counts),

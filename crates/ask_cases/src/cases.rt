@@ -1,5 +1,6 @@
 //! Reading a case from a line.
 use std::alloc::{AllocError, Global};
+use std::str::Split;
 use terms::{Axiom, ClassSet};
 
 /// A question, the axioms that it is asked of, and the sizes of the tables that are lent to it.
@@ -16,87 +17,69 @@ pub struct Case {
     pub axioms: Vec<Axiom>,
 }
 
-/// The first eight numbers that a text spells, with a separator between; what spells none is the greatest number.
-fn numbers(text: &str, separator: char) -> [usize; 8] {
-    let mut numbers = [usize::MAX; 8];
-    for (i, word) in text.split(separator).enumerate() {
-        if i < 8 {
-            numbers[i] = word.parse::<usize>().unwrap_or(usize::MAX);
-        }
-    }
-    numbers
+/// The number that the next word spells, if there is one that does.
+fn number(words: &mut Split<char>) -> Option<usize> {
+    words.next()?.parse::<usize>().ok()
 }
 
-/// A number below 256.
-fn byte(number: usize) -> u8 {
-    (number % 256) as u8
+// What is no number is read as the greatest one, which each reader below names, so that a case is refused and not lost.
+
+/// A number below 256; what is no number is read as 255.
+fn byte(words: &mut Split<char>) -> u8 {
+    number(words).map_or(u8::MAX, |number| (number % 256) as u8)
 }
 
-/// The set whose bits a number has.
-fn set(number: usize) -> ClassSet {
-    ClassSet::from_bits(number as u64)
+/// The set whose bits a number has; what is no number is read as all bits.
+fn set(words: &mut Split<char>) -> ClassSet {
+    ClassSet::from_bits(number(words).map_or(u64::MAX, |bits| bits as u64))
+}
+
+/// How many slots a table has; what is no number is read as more than memory has.
+fn slots(words: &mut Split<char>) -> usize {
+    number(words).unwrap_or(usize::MAX)
 }
 
 /// The axiom that a word spells: the number of its form and then its parts, with commas between.
 fn axiom(word: &str) -> Axiom {
-    let [form, first, second, third, ..] = numbers(word, ',');
-    match form {
-        3 => Axiom::Inclusion {
-            lower: set(first),
-            upper: set(second),
+    let mut parts = word.split(',');
+    match number(&mut parts) {
+        Some(3) => Axiom::Inclusion {
+            lower: set(&mut parts),
+            upper: set(&mut parts),
         },
-        4 => Axiom::Exists {
-            lower: byte(first),
-            role: byte(second),
-            filler: byte(third),
+        Some(4) => Axiom::Exists {
+            lower: byte(&mut parts),
+            role: byte(&mut parts),
+            filler: byte(&mut parts),
         },
-        5 => Axiom::ExistsLower {
-            role: byte(first),
-            filler: byte(second),
-            upper: byte(third),
+        Some(5) => Axiom::ExistsLower {
+            role: byte(&mut parts),
+            filler: byte(&mut parts),
+            upper: byte(&mut parts),
         },
-        6 => Axiom::Forall {
-            lower: byte(first),
-            role: byte(second),
-            filler: byte(third),
+        Some(6) => Axiom::Forall {
+            lower: byte(&mut parts),
+            role: byte(&mut parts),
+            filler: byte(&mut parts),
         },
         _ => Axiom::RoleInclusion {
-            sub: byte(first),
-            sup: byte(second),
+            sub: byte(&mut parts),
+            sup: byte(&mut parts),
         },
     }
 }
 
 /// The case that a line spells.
 pub fn read(heap: Global, line: &str) -> Result<Case, AllocError> {
-    let [
-        classes,
-        roles,
-        held,
-        denied,
-        context_slots,
-        clause_slots,
-        words,
-        _,
-    ] = numbers(line, ' ');
-    let mut axioms = Vec::new(heap);
-    for (i, word) in line.split(' ').enumerate() {
-        if i >= 7 {
-            axioms.push(axiom(word))?;
-        }
-    }
+    let mut words = line.split(' ');
     Ok(Case {
-        classes: byte(classes),
-        roles: byte(roles),
-        held: set(held),
-        denied: set(denied),
-        context_slots,
-        clause_slots,
-        words: if words == usize::MAX {
-            None
-        } else {
-            Some(words)
-        },
-        axioms,
+        classes: byte(&mut words),
+        roles: byte(&mut words),
+        held: set(&mut words),
+        denied: set(&mut words),
+        context_slots: slots(&mut words),
+        clause_slots: slots(&mut words),
+        words: number(&mut words),
+        axioms: words.map(axiom).collect(heap)?,
     })
 }

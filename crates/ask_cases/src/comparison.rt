@@ -1,22 +1,58 @@
 //! What a call told and wrote, compared with the naive closure.
 use crate::cases::Case;
-use crate::naive::{MOST_CLAUSES, MOST_CONTEXTS, Naive};
+use crate::naive::Naive;
+use reasoner::Answer;
 use sources::RecordTable;
-use tables::{ClauseRecord, ContextRecord, Counts, RolePart, Same};
-use terms::{ClassSet, Fault, Layer};
+use std::fmt;
+use tables::{ClauseRecord, ContextRecord, Counts, RolePart};
+use terms::{ClassSet, Fault, Layer, Refusal};
+use worlds::ModelTable;
 use worlds::audit::audit;
 use worlds::world::World;
-use worlds::{Finding, ModelTable};
 
 /// Each word of a model table before the call.
 pub const BLANK_WORD: u64 = 0x5a5a_5a5a_5a5a_5a5a;
 
-/// What a call told that did not refuse.
-#[derive(Clone, Copy)]
-pub struct Told {
-    pub possible: bool,
-    pub counts: Counts,
-    pub elements: Option<usize>,
+/// How a call and the naive closure differ.
+#[derive(Clone, Copy, PartialEq, Eq, Debug)]
+pub enum Difference {
+    Verdict,
+    Counts,
+    CountsOfTables,
+    RefusalDue,
+    OtherRefusalDue,
+    AnswerDue,
+    TablesWritten,
+    LaterSlotsWritten,
+    TooManyMembers,
+    Contexts,
+    Clauses,
+    Elements,
+    TooManyElements,
+    LaterWordsWritten,
+    Model,
+}
+
+impl fmt::Display for Difference {
+    fn fmt<W: fmt::Write>(&self, f: &mut fmt::Formatter<W>) -> fmt::Result {
+        f.write_str(match self {
+            Difference::Verdict => "the verdict differs",
+            Difference::Counts => "the counts differ",
+            Difference::CountsOfTables => "the counts are not those of the tables",
+            Difference::RefusalDue => "a refusal is due",
+            Difference::OtherRefusalDue => "another refusal is due",
+            Difference::AnswerDue => "an answer is due",
+            Difference::TablesWritten => "the tables are written",
+            Difference::LaterSlotsWritten => "slots behind the leading ones are written",
+            Difference::TooManyMembers => "too many for the naive closure",
+            Difference::Contexts => "the contexts are not distinct members, the goal first",
+            Difference::Clauses => "the clauses are not distinct members",
+            Difference::Elements => "elements with no model, or a model with none",
+            Difference::TooManyElements => "more elements than contexts",
+            Difference::LaterWordsWritten => "words behind the rows are written",
+            Difference::Model => "the rows are no model",
+        })
+    }
 }
 
 /// Each slot of a context table before the call: no member of a closure here.
@@ -36,175 +72,174 @@ pub fn blank_clause() -> ClauseRecord {
     }
 }
 
-/// How many slots are no longer as they were; nothing where these are not the leading ones.
-fn used<R: Same + Copy>(table: &[R], blank: R) -> Option<usize> {
-    let mut used = 0;
-    for i in 0..table.len() {
-        if !table[i].same(&blank) {
-            if used != i {
-                return None;
-            }
-            used = i + 1;
-        }
-    }
-    Some(used)
+/// The two tables that a call is lent, or their used slots.
+#[derive(Clone, Copy)]
+pub struct Tables<'a> {
+    pub contexts: &'a [ContextRecord],
+    pub clauses: &'a [ClauseRecord],
 }
 
-/// Whether the leading contexts are members, none of them twice, and the first is the goal.
-fn are_contexts(naive: &Naive, contexts: &[ContextRecord], used: usize) -> bool {
-    let mut seen = [false; MOST_CONTEXTS];
-    for (i, record) in contexts.iter().enumerate() {
-        if i >= used {
-            return true;
+/// The slots that are no longer as they were, which are to be the leading ones.
+fn leading<R: PartialEq + Copy>(table: &[R], blank: R) -> Result<&[R], Difference> {
+    let used = table
+        .iter()
+        .position(|record| *record == blank)
+        .unwrap_or(table.len());
+    let (leading, later) = table.split_at(used);
+    if later.iter().all(|record| *record == blank) {
+        Ok(leading)
+    } else {
+        Err(Difference::LaterSlotsWritten)
+    }
+}
+
+/// Whether no two of the records are the same.
+fn are_distinct<R: PartialEq>(records: &[R]) -> bool {
+    records
+        .iter()
+        .enumerate()
+        .all(|(i, record)| !records[..i].contains(record))
+}
+
+impl<'a> Tables<'a> {
+    /// The used slots.
+    fn used(self) -> Result<Tables<'a>, Difference> {
+        Ok(Tables {
+            contexts: leading(self.contexts, blank_context())?,
+            clauses: leading(self.clauses, blank_clause())?,
+        })
+    }
+
+    /// How many slots there are.
+    fn counts(self) -> Counts {
+        Counts {
+            contexts: self.contexts.len(),
+            clauses: self.clauses.len(),
         }
-        let Some(slot) = naive.context_slot(*record) else {
-            return false;
+    }
+
+    /// Whether the contexts are members, none of them twice, and the first is the goal.
+    fn are_contexts(self, naive: &Naive) -> bool {
+        self.contexts
+            .iter()
+            .all(|record| naive.contexts.contains(record))
+            && are_distinct(self.contexts)
+            && (self.contexts.is_empty() || self.contexts.first() == naive.contexts.first())
+    }
+
+    /// Where the naive closure has the context in a slot.
+    fn context_there(self, naive: &Naive, slot: u16) -> Option<u16> {
+        naive.context_slot(*self.contexts.get(usize::from(slot))?)
+    }
+
+    /// The clause as the naive closure has it, where it has the contexts that the clause cites.
+    fn clause_there(self, naive: &Naive, clause: ClauseRecord) -> Option<ClauseRecord> {
+        // A match: inside `map` a missing context could not leave the function by `?`.
+        let part = match clause.part {
+            Some(part) => Some(RolePart {
+                role: part.role,
+                context: self.context_there(naive, part.context)?,
+            }),
+            None => None,
         };
-        let slot = usize::from(slot) % MOST_CONTEXTS;
-        if seen[slot] || (i == 0 && slot != 0) {
-            return false;
-        }
-        seen[slot] = true;
+        Some(ClauseRecord {
+            context: self.context_there(naive, clause.context)?,
+            classes: clause.classes,
+            part,
+        })
     }
-    true
-}
 
-/// Where the naive closure has the context in a slot.
-fn context_there(naive: &Naive, contexts: &[ContextRecord], slot: u16) -> Option<u16> {
-    let record = contexts.get(usize::from(slot))?;
-    naive.context_slot(*record)
-}
-
-/// Where the naive closure has the clause.
-fn clause_there(naive: &Naive, contexts: &[ContextRecord], clause: ClauseRecord) -> Option<usize> {
-    let context = context_there(naive, contexts, clause.context)?;
-    let part = match clause.part {
-        Some(part) => Some(RolePart {
-            role: part.role,
-            context: context_there(naive, contexts, part.context)?,
-        }),
-        None => None,
-    };
-    naive.clause_slot(ClauseRecord {
-        context,
-        classes: clause.classes,
-        part,
-    })
-}
-
-/// Whether the leading clauses are members, none of them twice.
-fn are_clauses(
-    naive: &Naive,
-    contexts: &[ContextRecord],
-    clauses: &[ClauseRecord],
-    used: usize,
-) -> bool {
-    let mut seen = [false; MOST_CLAUSES];
-    for (i, record) in clauses.iter().enumerate() {
-        if i >= used {
-            return true;
-        }
-        let Some(slot) = clause_there(naive, contexts, *record) else {
-            return false;
-        };
-        let slot = slot % MOST_CLAUSES;
-        if seen[slot] {
-            return false;
-        }
-        seen[slot] = true;
+    /// Whether the clauses are members, none of them twice; the contexts are members, none of them twice.
+    fn are_clauses(self, naive: &Naive) -> bool {
+        are_distinct(self.clauses)
+            && self.clauses.iter().all(|clause| {
+                self.clause_there(naive, *clause)
+                    .is_some_and(|clause| naive.has_clause(clause))
+            })
     }
-    true
 }
 
-/// The number of the refusal that is due, if one is.
-fn due(case: &Case, naive: &Naive) -> Option<u8> {
+/// The counts that an answer tells.
+pub fn counts(answer: Answer) -> Counts {
+    match answer {
+        Answer::Nothing { counts } | Answer::Something { counts, .. } => counts,
+    }
+}
+
+/// The refusal that is due, if one is.
+// A case and its closure are lent apart, here and below, since half of the checks read one of them alone.
+fn due(case: &Case, naive: &Naive) -> Option<Refusal> {
     if !case.held.is_below(case.classes) || !case.denied.is_below(case.classes) {
-        return Some(10);
+        return Some(Refusal::PastEnd);
     }
-    let row = 1 + 4 * usize::from(case.roles);
-    let too_short = match case.words {
-        Some(words) => words < case.context_slots.wrapping_mul(row),
-        None => false,
-    };
+    let row = ModelTable::row_words(case.roles);
+    let too_short = case
+        .words
+        .is_some_and(|words| words < case.context_slots.wrapping_mul(row));
     if case.context_slots > 256 || case.clause_slots > 65535 || too_short {
-        return Some(11);
+        return Some(Refusal::TableSize);
     }
-    if naive.counts.contexts > case.context_slots || naive.counts.clauses > case.clause_slots {
-        return Some(23);
+    if naive.contexts.len() > case.context_slots || naive.clauses.len() > case.clause_slots {
+        return Some(Refusal::ClosureFull);
     }
     None
 }
 
-/// What differs between an answer and the naive closure, as to the verdict and the counts; `other` where nothing does.
-fn answer_difference(naive: &Naive, told: Told, used: Counts, other: &'static str) -> &'static str {
-    let counts = told.counts;
-    if told.possible == naive.is_impossible(0) {
-        return "the verdict differs";
+/// Whether an answer has the naive closure's verdict and counts, and the counts are those of the tables.
+fn compare_answer(naive: &Naive, answer: Answer, used: Counts) -> Result<(), Difference> {
+    let is_none = matches!(answer, Answer::Nothing { .. });
+    if is_none != naive.is_impossible(0) {
+        return Err(Difference::Verdict);
     }
-    if counts.contexts != naive.counts.contexts || counts.clauses != naive.counts.clauses {
-        return "the counts differ";
+    if counts(answer) != naive.counts() {
+        return Err(Difference::Counts);
     }
-    if counts.contexts != used.contexts || counts.clauses != used.clauses {
-        return "the counts are not those of the tables";
+    if counts(answer) != used {
+        return Err(Difference::CountsOfTables);
     }
-    other
+    Ok(())
 }
 
-/// What differs between a refusal and the one that is due; `other` where nothing does.
-fn refusal_difference(fault: Fault, number: u8, used: Counts, other: &'static str) -> &'static str {
-    if fault.kind.number() != number || fault.place != 0 || fault.layer != Layer::Ask {
-        return "another refusal is due";
+/// Whether a refusal is the one that is due; but for a full closure nothing may be written then.
+fn compare_refusal(fault: Fault, due: Refusal, used: Counts) -> Result<(), Difference> {
+    if fault != due.at(0, Layer::Ask) {
+        return Err(Difference::OtherRefusalDue);
     }
-    if number != 23 && (used.contexts != 0 || used.clauses != 0) {
-        return "the tables are written";
+    if due != Refusal::ClosureFull && used != Counts::default() {
+        return Err(Difference::TablesWritten);
     }
-    other
+    Ok(())
 }
 
-/// What is wrong with the leading slots; `ok` where nothing is.
-fn members_difference(
-    naive: &Naive,
-    contexts: &[ContextRecord],
-    clauses: &[ClauseRecord],
-    used: Counts,
-) -> &'static str {
+/// Whether the used slots have members, each once, the goal first.
+fn compare_members(naive: &Naive, used: Tables) -> Result<(), Difference> {
     if naive.full {
-        return "too many for the naive closure";
+        return Err(Difference::TooManyMembers);
     }
-    if !are_contexts(naive, contexts, used.contexts) {
-        return "the contexts are not distinct members, the goal first";
+    if !used.are_contexts(naive) {
+        return Err(Difference::Contexts);
     }
-    if !are_clauses(naive, contexts, clauses, used.clauses) {
-        return "the clauses are not distinct members";
+    if !used.are_clauses(naive) {
+        return Err(Difference::Clauses);
     }
-    "ok"
+    Ok(())
 }
 
-/// What differs between a call and the naive closure, but for the model; `ok` where nothing does.
-pub fn difference(
+/// Whether what a call told and the tables after it are as the naive closure has it.
+fn compare_tables(
     case: &Case,
     naive: &Naive,
-    told: Result<Told, Fault>,
-    contexts: &[ContextRecord],
-    clauses: &[ClauseRecord],
-) -> &'static str {
-    let (Some(used_contexts), Some(used_clauses)) = (
-        used(contexts, blank_context()),
-        used(clauses, blank_clause()),
-    ) else {
-        return "slots behind the leading ones are written";
-    };
-    let used = Counts {
-        contexts: used_contexts,
-        clauses: used_clauses,
-    };
-    let members = members_difference(naive, contexts, clauses, used);
+    told: Result<Answer, Fault>,
+    tables: Tables,
+) -> Result<(), Difference> {
+    let used = tables.used()?;
     match (told, due(case, naive)) {
-        (Ok(told), None) => answer_difference(naive, told, used, members),
-        (Err(fault), Some(number)) => refusal_difference(fault, number, used, members),
-        (Ok(_), Some(_)) => "a refusal is due",
-        (Err(_), None) => "an answer is due",
+        (Ok(answer), None) => compare_answer(naive, answer, used.counts())?,
+        (Err(fault), Some(due)) => compare_refusal(fault, due, used.counts())?,
+        (Ok(_), Some(_)) => return Err(Difference::RefusalDue),
+        (Err(_), None) => return Err(Difference::AnswerDue),
     }
+    compare_members(naive, used)
 }
 
 /// Whether the first rows are a world that obeys the axioms and whose element 0 is in all held and no denied classes.
@@ -214,45 +249,59 @@ fn is_model(case: &Case, model: &[u64], size: u32) -> Result<bool, Fault> {
     let mut world = ModelTable::new();
     world.open(model, u32::from(case.roles), size)?;
     let classes = world.classes_of(0);
-    match audit(&source, &world) {
-        Finding::Passes => Ok(case.held.is_subset(classes) && !case.denied.meets(classes)),
-        Finding::Broken { .. } => Ok(false),
+    Ok(
+        audit(&source, &world).is_none()
+            && case.held.is_subset(classes)
+            && !case.denied.meets(classes),
+    )
+}
+
+/// The rows that an answer says are written, with the most that there may be, where it is one that shows a world.
+fn shown(told: Result<Answer, Fault>) -> Option<(usize, usize)> {
+    match told {
+        Ok(
+            Answer::Something {
+                counts,
+                elements: Some(elements),
+            },
+        ) => Some((elements, counts.contexts)),
+        _ => None,
     }
 }
 
-/// Whether the words from a number up are as they were.
-fn are_blank(model: &[u64], from: usize) -> bool {
-    for (i, word) in model.iter().enumerate() {
-        if i >= from && *word != BLANK_WORD {
-            return false;
-        }
-    }
-    true
-}
-
-/// What is wrong with the model table after the call; `other` where nothing is.
-pub fn model_difference(
+/// Whether the model table shows a world where one is due, and is else as it was.
+fn compare_model(
     case: &Case,
-    told: Result<Told, Fault>,
+    told: Result<Answer, Fault>,
     model: &[u64],
-    other: &'static str,
-) -> &'static str {
-    let (possible, most, elements) = match told {
-        Ok(told) => (told.possible, told.counts.contexts, told.elements),
-        Err(_) => (false, 0, None),
-    };
-    let size = elements.unwrap_or(0);
-    if elements.is_some() != (possible && case.words.is_some()) {
-        return "elements with no model, or a model with none";
+) -> Result<(), Difference> {
+    let is_due = case.words.is_some() && matches!(told, Ok(Answer::Something { .. }));
+    let shown = shown(told);
+    if shown.is_some() != is_due {
+        return Err(Difference::Elements);
     }
+    let (size, most) = shown.unwrap_or((0, 0));
     if size > most || size > 256 {
-        return "more elements than contexts";
+        return Err(Difference::TooManyElements);
     }
-    if !are_blank(model, size * (1 + 4 * usize::from(case.roles))) {
-        return "words behind the rows are written";
+    let written = size * ModelTable::row_words(case.roles);
+    if model.iter().skip(written).any(|word| *word != BLANK_WORD) {
+        return Err(Difference::LaterWordsWritten);
     }
-    if elements.is_some() && !matches!(is_model(case, model, size as u32), Ok(true)) {
-        return "the rows are no model";
+    if is_due && !matches!(is_model(case, model, size as u32), Ok(true)) {
+        return Err(Difference::Model);
     }
-    other
+    Ok(())
+}
+
+/// Whether a call told and wrote what is due.
+pub fn compare(
+    case: &Case,
+    naive: &Naive,
+    told: Result<Answer, Fault>,
+    tables: Tables,
+    model: &[u64],
+) -> Result<(), Difference> {
+    compare_model(case, told, model)?;
+    compare_tables(case, naive, told, tables)
 }

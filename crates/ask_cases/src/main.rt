@@ -11,68 +11,53 @@ mod comparison;
 mod naive;
 
 use cases::Case;
-use comparison::{BLANK_WORD, Told};
+use comparison::{BLANK_WORD, Difference, Tables, compare, counts};
 use naive::Naive;
 use reasoner::{Answer, ask, ask_model};
 use sources::RecordTable;
+use std::alloc::{AllocError, Global};
 use std::io;
 use std::io::{BufRead, BufReader};
 use tables::{ClauseRecord, ContextRecord};
 use terms::Fault;
 
 /// The closure of the case's question; of the goal alone where it is to be refused for its classes.
-fn closure(case: &Case) -> Naive {
-    let mut naive = Naive::new(ContextRecord {
+fn closure(heap: Global, case: &Case) -> Result<Naive, AllocError> {
+    let goal = ContextRecord {
         held: case.held,
         denied: case.denied,
-    });
+    };
+    let mut naive = Naive::new(heap, goal)?;
     if case.held.is_below(case.classes) && case.denied.is_below(case.classes) {
-        naive.saturate(&case.axioms);
+        naive.saturate(heap, &case.axioms)?;
     }
-    naive
+    Ok(naive)
 }
 
-/// The answer in one form.
-fn told(answer: Result<Answer, Fault>) -> Result<Told, Fault> {
-    match answer {
-        Ok(Answer::Nothing { counts }) => Ok(Told {
-            possible: false,
-            counts,
-            elements: None,
-        }),
-        Ok(Answer::Something { counts, elements }) => Ok(Told {
-            possible: true,
-            counts,
-            elements,
-        }),
-        Err(fault) => Err(fault),
-    }
-}
-
-/// Prints what a call told, with the first word of the model table where there is a model, and what differs.
-fn print_line(
-    rt: &HostRuntime,
-    told: Result<Told, Fault>,
-    first: Option<u64>,
-    difference: &str,
-) -> io::Result<()> {
-    match told {
-        Ok(told) => {
-            let verdict = if told.possible { "some" } else { "none" };
-            let contexts = told.counts.contexts;
-            let clauses = told.counts.clauses;
-            let word = match told.elements {
-                Some(_) => first.unwrap_or(0),
-                None => 0,
-            };
-            println!(rt;
-                "{verdict}, contexts {contexts}, clauses {clauses}, word {word}: {difference}"
-            )
-        }
+/// Prints what a call told, with the first word of the model table where there is a model.
+fn print_told(rt: &HostRuntime, told: Result<Answer, Fault>, first: Option<u64>) -> io::Result<()> {
+    let answer = match told {
+        Ok(answer) => answer,
         Err(fault) => {
             let layer = fault.layer;
-            println!(rt; "{fault}, layer {layer:?}: {difference}")
+            return print!(rt; "{fault}, layer {layer:?}: ");
         }
+    };
+    let (verdict, elements) = match answer {
+        Answer::Nothing { .. } => ("none", None),
+        Answer::Something { elements, .. } => ("some", elements),
+    };
+    let contexts = counts(answer).contexts;
+    let clauses = counts(answer).clauses;
+    let word = elements.and(first).unwrap_or(0);
+    print!(rt; "{verdict}, contexts {contexts}, clauses {clauses}, word {word}: ")
+}
+
+/// Prints what differs, and ends the line.
+fn print_difference(rt: &HostRuntime, compared: Result<(), Difference>) -> io::Result<()> {
+    match compared {
+        Ok(()) => println!(rt; "ok"),
+        Err(difference) => println!(rt; "{difference}"),
     }
 }
 
@@ -88,14 +73,14 @@ fn carry_out(
     if source.open(case.classes, case.roles, &case.axioms).is_err() {
         return println!(rt; "no case");
     }
-    let answer = match case.words {
+    let told = match case.words {
         Some(_) => ask_model(&source, case.held, case.denied, contexts, clauses, model),
         None => ask(&source, case.held, case.denied, contexts, clauses),
     };
-    let told = told(answer);
-    let difference = comparison::difference(case, &closure(case), told, contexts, clauses);
-    let difference = comparison::model_difference(case, told, model, difference);
-    print_line(rt, told, model.first().copied(), difference)
+    let naive = closure(rt.alloc(), case)?;
+    let compared = compare(case, &naive, told, Tables { contexts, clauses }, model);
+    print_told(rt, told, model.first().copied())?;
+    print_difference(rt, compared)
 }
 
 /// Makes the call of a case with tables of its own.

@@ -1,21 +1,23 @@
 //! The closure, worked out naively: every rule of docs/closure.md is tried on all that is there, round after round, until nothing is new.
 //!
 //! None of the engine's own rules, tables or loops is used here, but its records, to say what a member is.
+use std::alloc::{AllocError, Global};
 use tables::{ClauseRecord, ContextRecord, Counts, RolePart};
 use terms::{Axiom, ClassSet};
 
 /// Room for so many contexts.
-pub const MOST_CONTEXTS: usize = 32;
+const MOST_CONTEXTS: usize = 32;
 
 /// Room for so many clauses.
-pub const MOST_CLAUSES: usize = 256;
+const MOST_CLAUSES: usize = 256;
 
-/// The members found so far, each once, the goal first; `full` where some found no room.
-#[derive(Clone, Copy)]
+/// The members found so far, each once, the goal first.
+#[derive(Clone, Drop)]
 pub struct Naive {
-    pub contexts: [ContextRecord; MOST_CONTEXTS],
-    pub clauses: [ClauseRecord; MOST_CLAUSES],
-    pub counts: Counts,
+    pub contexts: Vec<ContextRecord>,
+    pub clauses: Vec<ClauseRecord>,
+    /// Whether some that were found had no room.
+    // A state of the whole closure, and of none of its members.
     pub full: bool,
 }
 
@@ -28,7 +30,7 @@ fn only(class: u8) -> ClassSet {
     }
 }
 
-/// The rest of a clause of the context without role part whose head is the class.
+/// What a clause leaves without its head, where it is of the context, has no role part and has that head.
 fn rest(clause: ClauseRecord, context: u16, class: u8) -> Option<ClassSet> {
     if clause.context != context || clause.part.is_some() {
         return None;
@@ -38,6 +40,22 @@ fn rest(clause: ClauseRecord, context: u16, class: u8) -> Option<ClassSet> {
         Some(clause.classes.without(head))
     } else {
         None
+    }
+}
+
+/// The rests of all such clauses; the empty set alone where no class is asked for.
+fn rests(
+    heap: Global,
+    clauses: &[ClauseRecord],
+    context: u16,
+    class: Option<u8>,
+) -> Result<Vec<ClassSet>, AllocError> {
+    match class {
+        Some(class) => clauses
+            .iter()
+            .filter_map(|clause| rest(*clause, context, class))
+            .collect(heap),
+        None => vec![in heap; ClassSet::empty(); 1],
     }
 }
 
@@ -56,137 +74,129 @@ fn reaches(axioms: &[Axiom], from: u8, to: u8) -> bool {
     reached.contains(to)
 }
 
+/// Where a record stands in a list.
+fn place<R: PartialEq>(list: &[R], record: &R) -> Option<u16> {
+    let place = list.iter().position(|other| other == record)?;
+    u16::try_from(place).ok()
+}
+
+/// Puts a record that is new at the end of a list, and says whether there was room for it.
+fn enter<R: PartialEq + Copy>(
+    list: &mut Vec<R>,
+    most: usize,
+    record: R,
+) -> Result<bool, AllocError> {
+    if list.contains(&record) {
+        return Ok(true);
+    }
+    if list.len() >= most {
+        return Ok(false);
+    }
+    list.push(record)?;
+    Ok(true)
+}
+
 impl Naive {
     /// The goal alone.
-    pub fn new(goal: ContextRecord) -> Naive {
-        let none = ClauseRecord {
-            context: 0,
-            classes: ClassSet::empty(),
-            part: None,
-        };
-        Naive {
-            contexts: [goal; MOST_CONTEXTS],
-            clauses: [none; MOST_CLAUSES],
-            counts: Counts {
-                contexts: 1,
-                clauses: 0,
-            },
+    pub fn new(heap: Global, goal: ContextRecord) -> Result<Naive, AllocError> {
+        Ok(Naive {
+            contexts: vec![in heap; goal; 1]?,
+            clauses: Vec::new(heap),
             full: false,
+        })
+    }
+
+    /// How many members there are.
+    pub fn counts(&self) -> Counts {
+        Counts {
+            contexts: self.contexts.len(),
+            clauses: self.clauses.len(),
         }
     }
 
     /// Where a context stands.
     pub fn context_slot(&self, record: ContextRecord) -> Option<u16> {
-        for slot in 0..MOST_CONTEXTS {
-            if slot < self.counts.contexts && self.contexts[slot] == record {
-                return Some(slot as u16);
-            }
-        }
-        None
+        place(&self.contexts, &record)
     }
 
-    /// Where a clause stands.
-    pub fn clause_slot(&self, record: ClauseRecord) -> Option<usize> {
-        for slot in 0..MOST_CLAUSES {
-            if slot < self.counts.clauses && self.clauses[slot] == record {
-                return Some(slot);
-            }
-        }
-        None
-    }
-
-    /// The clause in a slot; past the end one of no context.
-    fn clause_at(&self, slot: usize) -> ClauseRecord {
-        if slot < self.counts.clauses && slot < MOST_CLAUSES {
-            self.clauses[slot]
-        } else {
-            ClauseRecord {
-                context: u16::MAX,
-                classes: ClassSet::empty(),
-                part: None,
-            }
-        }
-    }
-
-    /// The context in a slot.
-    fn context_at(&self, slot: u16) -> ContextRecord {
-        self.contexts[usize::from(slot) % MOST_CONTEXTS]
+    /// Whether the clause is a member.
+    pub fn has_clause(&self, record: ClauseRecord) -> bool {
+        self.clauses.contains(&record)
     }
 
     /// Adds a clause of the context.
-    fn add(&mut self, context: u16, classes: ClassSet, part: Option<RolePart>) {
+    fn add(
+        &mut self,
+        context: u16,
+        classes: ClassSet,
+        part: Option<RolePart>,
+    ) -> Result<(), AllocError> {
         let record = ClauseRecord {
             context,
             classes,
             part,
         };
-        if self.clause_slot(record).is_some() {
-            return;
-        }
-        let slot = self.counts.clauses;
-        if slot < MOST_CLAUSES {
-            self.clauses[slot] = record;
-            self.counts.clauses = slot + 1;
-        } else {
-            self.full = true;
-        }
+        self.full |= !enter(&mut self.clauses, MOST_CLAUSES, record)?;
+        Ok(())
     }
 
     /// Adds a clause of the context with a role part, and the target of the role part.
-    fn add_toward(&mut self, context: u16, classes: ClassSet, role: u8, target: ContextRecord) {
-        let slot = self.counts.contexts;
-        if self.context_slot(target).is_none() {
-            if slot < MOST_CONTEXTS {
-                self.contexts[slot] = target;
-                self.counts.contexts = slot + 1;
-            } else {
-                self.full = true;
+    fn add_toward(
+        &mut self,
+        context: u16,
+        classes: ClassSet,
+        role: u8,
+        target: ContextRecord,
+    ) -> Result<(), AllocError> {
+        self.full |= !enter(&mut self.contexts, MOST_CONTEXTS, target)?;
+        match self.context_slot(target) {
+            Some(target) => {
+                let part = RolePart {
+                    role,
+                    context: target,
+                };
+                self.add(context, classes, Some(part))
             }
-        }
-        if let Some(target) = self.context_slot(target) {
-            let part = RolePart {
-                role,
-                context: target,
-            };
-            self.add(context, classes, Some(part));
+            None => Ok(()),
         }
     }
 
     /// Adds `whole` with what is left of three clauses of the context, one for each class, in every choice; no class needs no clause.
-    fn add_choices(&mut self, context: u16, lower: [Option<u8>; 3], whole: ClassSet) {
-        for i in 0..MOST_CLAUSES {
-            let Some(first) = self.chosen(context, lower[0], i) else {
-                continue;
-            };
-            for j in 0..MOST_CLAUSES {
-                let Some(second) = self.chosen(context, lower[1], j) else {
-                    continue;
-                };
-                for k in 0..MOST_CLAUSES {
-                    if let Some(third) = self.chosen(context, lower[2], k) {
-                        self.add(context, whole.union(first).union(second).union(third), None);
-                    }
+    fn add_choices(
+        &mut self,
+        heap: Global,
+        there: &Naive,
+        context: u16,
+        lower: ClassSet,
+        whole: ClassSet,
+    ) -> Result<(), AllocError> {
+        // The rests are collected, since the inner loops pass over theirs more than once.
+        let mut classes = lower.classes();
+        let firsts = rests(heap, &there.clauses, context, classes.next())?;
+        let seconds = rests(heap, &there.clauses, context, classes.next())?;
+        let thirds = rests(heap, &there.clauses, context, classes.next())?;
+        for first in &firsts {
+            for second in &seconds {
+                for third in &thirds {
+                    let rest = first.union(*second).union(*third);
+                    self.add(context, whole.union(rest), None)?;
                 }
             }
         }
-    }
-
-    /// What is left of the clause in a slot where it is one for the class; of no class nothing is left, in slot 0 alone.
-    fn chosen(&self, context: u16, class: Option<u8>, slot: usize) -> Option<ClassSet> {
-        match class {
-            Some(class) => rest(self.clause_at(slot), context, class),
-            None if slot == 0 => Some(ClassSet::empty()),
-            None => None,
-        }
+        Ok(())
     }
 
     /// The rules that look at a context's own clauses without role part.
-    fn apply_plain(&mut self, context: u16, axiom: Axiom) {
+    fn apply_plain(
+        &mut self,
+        heap: Global,
+        there: &Naive,
+        context: u16,
+        axiom: Axiom,
+    ) -> Result<(), AllocError> {
         match axiom {
             Axiom::Inclusion { lower, upper } => {
-                let mut classes = lower.classes();
-                let lower = [classes.next(), classes.next(), classes.next()];
-                self.add_choices(context, lower, upper);
+                self.add_choices(heap, there, context, lower, upper)
             }
             Axiom::Exists {
                 lower,
@@ -197,119 +207,133 @@ impl Naive {
                     held: only(filler),
                     denied: ClassSet::empty(),
                 };
-                for slot in 0..MOST_CLAUSES {
-                    if let Some(rest) = rest(self.clause_at(slot), context, lower) {
-                        self.add_toward(context, rest, role, target);
-                    }
+                for rest in there
+                    .clauses
+                    .iter()
+                    .filter_map(|clause| rest(*clause, context, lower))
+                {
+                    self.add_toward(context, rest, role, target)?;
                 }
+                Ok(())
             }
-            _ => (),
+            _ => Ok(()),
         }
     }
 
-    /// The rules that start from a clause with a role part.
+    /// The rules that start from a clause with a role part, which leads to the target.
     fn apply_toward(
         &mut self,
+        there: &Naive,
         axioms: &[Axiom],
         clause: ClauseRecord,
         part: RolePart,
+        target: ContextRecord,
         axiom: Axiom,
-    ) {
-        let target = self.context_at(part.context);
-        for slot in 0..MOST_CLAUSES {
-            match axiom {
-                Axiom::ExistsLower {
-                    role,
-                    filler,
-                    upper,
-                } => {
-                    let other = rest(self.clause_at(slot), part.context, filler);
-                    if other.is_some() && reaches(axioms, part.role, role) {
-                        let target = ContextRecord {
-                            held: target.held,
-                            denied: target.denied.union(only(filler)),
-                        };
-                        let classes = clause.classes.union(only(upper));
-                        self.add_toward(clause.context, classes, part.role, target);
-                    }
+    ) -> Result<(), AllocError> {
+        match axiom {
+            Axiom::ExistsLower {
+                role,
+                filler,
+                upper,
+            } if reaches(axioms, part.role, role) => {
+                let target = ContextRecord {
+                    held: target.held,
+                    denied: target.denied.union(only(filler)),
+                };
+                let classes = clause.classes.union(only(upper));
+                if there
+                    .clauses
+                    .iter()
+                    .all(|other| rest(*other, part.context, filler).is_none())
+                {
+                    return Ok(());
                 }
-                Axiom::Forall {
-                    lower,
-                    role,
-                    filler,
-                } => {
-                    if let Some(rest) = rest(self.clause_at(slot), clause.context, lower) {
-                        if reaches(axioms, part.role, role) {
-                            let target = ContextRecord {
-                                held: target.held.union(only(filler)),
-                                denied: target.denied,
-                            };
-                            let classes = clause.classes.union(rest);
-                            self.add_toward(clause.context, classes, part.role, target);
-                        }
-                    }
-                }
-                _ => (),
+                self.add_toward(clause.context, classes, part.role, target)
             }
+            Axiom::Forall {
+                lower,
+                role,
+                filler,
+            } if reaches(axioms, part.role, role) => {
+                let target = ContextRecord {
+                    held: target.held.union(only(filler)),
+                    denied: target.denied,
+                };
+                for rest in there
+                    .clauses
+                    .iter()
+                    .filter_map(|other| rest(*other, clause.context, lower))
+                {
+                    let classes = clause.classes.union(rest);
+                    self.add_toward(clause.context, classes, part.role, target)?;
+                }
+                Ok(())
+            }
+            _ => Ok(()),
         }
     }
 
     /// The rules of held and denied classes.
-    fn apply_goal(&mut self, context: u16) {
-        let record = self.context_at(context);
+    fn apply_goal(
+        &mut self,
+        there: &Naive,
+        context: u16,
+        record: ContextRecord,
+    ) -> Result<(), AllocError> {
         for class in record.held.classes() {
-            self.add(context, only(class), None);
+            self.add(context, only(class), None)?;
         }
         for class in record.denied.classes() {
-            for slot in 0..MOST_CLAUSES {
-                if let Some(rest) = rest(self.clause_at(slot), context, class) {
-                    self.add(context, rest, None);
-                }
+            for rest in there
+                .clauses
+                .iter()
+                .filter_map(|clause| rest(*clause, context, class))
+            {
+                self.add(context, rest, None)?;
             }
         }
+        Ok(())
     }
 
     /// Whether the context has the empty clause.
     pub fn is_impossible(&self, context: u16) -> bool {
-        let empty = ClauseRecord {
-            context,
-            classes: ClassSet::empty(),
-            part: None,
-        };
-        self.clause_slot(empty).is_some()
+        self.has_clause(ClauseRecord::lone(context, ClassSet::empty()))
     }
 
     /// Tries every rule on all that is there.
-    fn round(&mut self, axioms: &[Axiom]) {
-        for context in 0..MOST_CONTEXTS {
-            if context < self.counts.contexts {
-                self.apply_goal(context as u16);
+    fn round(&mut self, heap: Global, axioms: &[Axiom]) -> Result<(), AllocError> {
+        let there = self.clone()?;
+        for (context, record) in (0..=u16::MAX).zip(&there.contexts) {
+            self.apply_goal(&there, context, *record)?;
+            for axiom in axioms {
+                self.apply_plain(heap, &there, context, *axiom)?;
+            }
+        }
+        for clause in &there.clauses {
+            let Some(part) = clause.part else {
+                continue;
+            };
+            if there.is_impossible(part.context) {
+                self.add(clause.context, clause.classes, None)?;
+            }
+            if let Some(target) = there.contexts.get(usize::from(part.context)) {
                 for axiom in axioms {
-                    self.apply_plain(context as u16, *axiom);
+                    self.apply_toward(&there, axioms, *clause, part, *target, *axiom)?;
                 }
             }
         }
-        for slot in 0..MOST_CLAUSES {
-            let clause = self.clause_at(slot);
-            if let Some(part) = clause.part {
-                if self.is_impossible(part.context) {
-                    self.add(clause.context, clause.classes, None);
-                }
-                for axiom in axioms {
-                    self.apply_toward(axioms, clause, part, *axiom);
-                }
-            }
-        }
+        Ok(())
     }
 
     /// Rounds until nothing is new. Each but the last adds a member, so there are fewer of them than there is room for members.
-    pub fn saturate(&mut self, axioms: &[Axiom]) {
+    pub fn saturate(&mut self, heap: Global, axioms: &[Axiom]) -> Result<(), AllocError> {
         for _ in 0..MOST_CONTEXTS + MOST_CLAUSES {
-            let before = self.counts;
-            self.round(axioms);
-            if self.counts.contexts == before.contexts && self.counts.clauses == before.clauses {
-                return;
+            let before = self.counts();
+            self.round(heap, axioms)?;
+            if self.counts() == before {
+                break;
             }
         }
+        Ok(())
     }
 }

@@ -8,7 +8,7 @@ use sources::RecordTable;
 use std::io;
 use terms::{Axiom, ClassSet, Fault};
 use worlds::audit::audit;
-use worlds::{EntryTable, Finding, Link};
+use worlds::{Breach, EntryTable, Link};
 
 /// The axiom of a number, the five forms in turn.
 fn axiom(number: usize) -> Axiom {
@@ -42,7 +42,12 @@ fn target(number: u32) -> u32 {
     number.wrapping_mul(2_654_435_761) / 7 % 4096
 }
 
-fn found<'a>(axioms: &[Axiom], classes: &'a [u64], links: &'a [Link]) -> Result<Finding, Fault> {
+/// What the audit of the entries and links against the axioms finds.
+fn found<'a>(
+    axioms: &[Axiom],
+    classes: &'a [u64],
+    links: &'a [Link],
+) -> Result<Option<Breach>, Fault> {
     let mut source = RecordTable::new();
     source.open(64, 16, axioms)?;
     let mut world = EntryTable::new();
@@ -52,10 +57,7 @@ fn found<'a>(axioms: &[Axiom], classes: &'a [u64], links: &'a [Link]) -> Result<
 
 fn main(rt: HostRuntime) -> io::Result<()> {
     let heap = rt.alloc();
-    let mut axioms = Vec::new(heap);
-    for number in 0..1024 {
-        axioms.push(axiom(number))?;
-    }
+    let axioms: Vec<Axiom> = (0..1024).map(axiom).collect(heap)?;
     let classes = vec![in heap; u64::MAX / 2; 4096]?;
     let mut links = Vec::new(heap);
     for number in 0..8192 {
@@ -65,10 +67,10 @@ fn main(rt: HostRuntime) -> io::Result<()> {
         links.push(Link { from, role: 1, to })?;
     }
     match found(&axioms, &classes, &links) {
-        Ok(Finding::Passes) => println!(rt; "4096 entries, 16384 links, 1024 axioms: passes"),
-        Ok(Finding::Broken { number, element }) => println!(rt;
+        Ok(None) => println!(rt; "4096 entries, 16384 links, 1024 axioms: passes"),
+        Ok(Some(Breach { number, element })) => println!(rt;
             "axiom {number} is broken by entry {element}"
         ),
-        Err(fault) => println!(rt; "refused {} at {}", fault.kind.number(), fault.place),
+        Err(fault) => println!(rt; "{fault}"),
     }
 }

@@ -1,17 +1,10 @@
 -- The slots of a book: its own axioms are the first of them.
-use Rattle.std.proofs.Common.{◌≡◌, ℕ, zero, suc, ◌-◌, ◌<◌, ◌≤◌, List, [], ◌∷◌, ◌++◌, length, take, drop, set, sym, refl, ap, ◌∙◌, append_assoc, add-one, arith, length-append, length-drop}
+use Rattle.std.proofs.Common.{◌≡◌, ℕ, suc, ◌-◌, ◌<◌, ◌≤◌, List, ◌++◌, length, take, drop, sym, ap, ◌∙◌, append_assoc, add-one, arith, length-append, length-drop}
 use borrow.Rule.Slice.PartMut.{put_mid}
 use Rattle.std.proofs.lemmas.List.{length-take-le, take_at, take-take, drop-drop}
 use Rattle.std.proofs.lemmas.Slice.{between_is}
 use Rattle.terms.specs.declared.axioms.Axiom.{Axiom}
-use Rattle.book.specs.Books.{amended, struck}
-
--- a slot among the first n rewritten
-pub take_amended : (n : ℕ) (slots : List Axiom) (i : ℕ) (a : Axiom) → take n (set slots i a) ≡ amended (take n slots) i a
-take_amended zero slots i a = refl
-take_amended (suc n) [] i a = refl
-take_amended (suc n) (x ∷ slots) zero a = refl
-take_amended (suc n) (x ∷ slots) (suc i) a = ap (λ rest. x ∷ rest) (take_amended n slots i a)
+use Rattle.book.specs.Books.{struck}
 
 -- the first n - 1 slots when those from i up to n are rotated by one
 pub take_struck : (xs ys : List Axiom) (i n : ℕ) → i < n → n ≤ length xs

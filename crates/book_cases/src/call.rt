@@ -1,4 +1,6 @@
 //! Calls as words.
+use std::num::{ParseIntError, TryFromIntError};
+use std::str::FromStr;
 use terms::{Axiom, ClassSet};
 
 /// A call on a book.
@@ -12,6 +14,22 @@ pub enum Call {
     NameByte(u8),
 }
 
+/// A word that is no call.
+#[derive(Clone, Copy, Debug)]
+pub struct NoCall;
+
+impl From<ParseIntError> for NoCall {
+    fn from(_error: ParseIntError) -> Self {
+        NoCall
+    }
+}
+
+impl From<TryFromIntError> for NoCall {
+    fn from(_error: TryFromIntError) -> Self {
+        NoCall
+    }
+}
+
 /// The inclusion with these classes on the left and none on the right.
 pub fn inclusion(bits: u64) -> Axiom {
     Axiom::Inclusion {
@@ -21,6 +39,7 @@ pub fn inclusion(bits: u64) -> Axiom {
 }
 
 /// The classes on the left of an inclusion.
+// Each axiom of a case is an inclusion, so no case prints the 0 of the other forms.
 pub fn bits(axiom: Axiom) -> u64 {
     match axiom {
         Axiom::Inclusion { lower, .. } => lower.bits(),
@@ -28,29 +47,22 @@ pub fn bits(axiom: Axiom) -> u64 {
     }
 }
 
-impl Call {
-    /// The call that a word is, if it is one.
-    pub fn read(word: &str) -> Option<Call> {
-        let (name, rest) = word.split_once(':')?;
-        let (first, second) = match rest.split_once(':') {
-            Some(parts) => parts,
-            None => (rest, "0"),
-        };
-        let number = first.parse::<usize>().ok()?;
-        let axiom = second.parse::<u64>().ok()?;
-        Call::of(name, number, axiom)
-    }
+impl FromStr for Call {
+    type Err = NoCall;
 
-    /// The call of this name with these numbers, if there is one.
-    fn of(name: &str, number: usize, axiom: u64) -> Option<Call> {
+    fn from_str(word: &str) -> Result<Call, NoCall> {
+        let (name, rest) = word.split_once(':').ok_or(NoCall)?;
+        let (number, axiom) = rest.split_once(':').unwrap_or((rest, "0"));
+        let number = number.parse::<usize>()?;
+        let axiom = axiom.parse::<u64>()?;
         match name {
-            "add" => Some(Call::Add(inclusion(number as u64))),
-            "amend" => Some(Call::Amend(number, inclusion(axiom))),
-            "strike" => Some(Call::Strike(number)),
-            "axiom" => Some(Call::AxiomAt(number)),
-            "length" => Some(Call::NameLen(u8::try_from(number).ok()?)),
-            "byte" => Some(Call::NameByte(u8::try_from(number).ok()?)),
-            _ => None,
+            "add" => Ok(Call::Add(inclusion(number as u64))),
+            "amend" => Ok(Call::Amend(number, inclusion(axiom))),
+            "strike" => Ok(Call::Strike(number)),
+            "axiom" => Ok(Call::AxiomAt(number)),
+            "length" => Ok(Call::NameLen(u8::try_from(number)?)),
+            "byte" => Ok(Call::NameByte(u8::try_from(number)?)),
+            _ => Err(NoCall),
         }
     }
 }

@@ -5,9 +5,6 @@
 //! `axiom:2` asks for the axiom at number 2, `length:2` for the length of class 2's name, and `byte:2` for the first byte of it.
 #![tactic(auto)]
 
-ghost use Rattle.sources.specs.Meanings.{Limits};
-ghost use Rattle.book.specs.Owned.{whole_of};
-
 mod call;
 
 use book::Book;
@@ -18,10 +15,7 @@ use std::io::{BufRead, BufReader};
 use terms::{Axiom, Fault};
 
 /// Makes a call: the number that was asked for, or how many own axioms there are after a change.
-fn make<S: Source>(book: &mut Book<S>, call: Call) -> Result<u64, Fault>
-    requires { Limits (whole_of S.Source.meaning book.old) }
-    ensures { Limits (whole_of S.Source.meaning book.new) }
-{
+fn make<S: Source>(book: &mut Book<S>, call: Call) -> Result<u64, Fault> {
     match call {
         Call::Add(axiom) => book.add(axiom)?,
         Call::Amend(number, axiom) => book.amend(number, axiom)?,
@@ -34,9 +28,7 @@ fn make<S: Source>(book: &mut Book<S>, call: Call) -> Result<u64, Fault>
 }
 
 /// Prints the length of the list and the own axioms.
-fn print_list<S: Source>(rt: &HostRuntime, book: &Book<S>) -> io::Result<()>
-    requires { Limits (whole_of S.Source.meaning book.now) }
-{
+fn print_list<S: Source>(rt: &HostRuntime, book: &Book<S>) -> io::Result<()> {
     let count = book.axiom_count();
     print!(rt; "list of {count}, own:")?;
     for axiom in book.own_axioms() {
@@ -47,12 +39,9 @@ fn print_list<S: Source>(rt: &HostRuntime, book: &Book<S>) -> io::Result<()>
 }
 
 /// Makes the calls that a text has, and prints what came of each, and then the list.
-fn make_all<S: Source>(rt: &HostRuntime, book: &mut Book<S>, calls: &str) -> io::Result<()>
-    requires { Limits (whole_of S.Source.meaning book.old) }
-    ensures { Limits (whole_of S.Source.meaning book.new) }
-{
+fn make_all<S: Source>(rt: &HostRuntime, book: &mut Book<S>, calls: &str) -> io::Result<()> {
     for word in calls.split(' ') {
-        if let Some(call) = Call::read(word) {
+        if let Ok(call) = word.parse::<Call>() {
             match make(book, call) {
                 Ok(number) => println!(rt; "{word} gives {number}")?,
                 Err(fault) => {
@@ -66,9 +55,7 @@ fn make_all<S: Source>(rt: &HostRuntime, book: &mut Book<S>, calls: &str) -> io:
 }
 
 /// Makes the calls of a case on a book over the source, and perhaps on a book over that book.
-fn lay<S: Source + Drop>(rt: &HostRuntime, source: S, calls: &str) -> io::Result<()>
-    requires { Limits (S.Source.meaning source) }
-{
+fn lay<S: Source + Drop>(rt: &HostRuntime, source: S, calls: &str) -> io::Result<()> {
     let mut book = Book::new(source);
     match calls.split_once('|') {
         Some((lower, upper)) => {
@@ -91,22 +78,22 @@ fn open(rt: &HostRuntime, records: &[Axiom], calls: &str) -> io::Result<()> {
 
 /// Makes the calls of a case over a table of so many records.
 fn answer(rt: &HostRuntime, records: usize, calls: &str) -> io::Result<()> {
-    let all = [inclusion(1); 1024];
-    if records <= all.len() {
-        open(rt, &all[..records], calls)
-    } else {
-        println!(rt; "no case")
+    match [inclusion(1); 1024].get(..records) {
+        Some(records) => open(rt, records, calls),
+        None => println!(rt; "no case"),
     }
+}
+
+/// The number of records and the calls that a line has.
+fn read(line: &str) -> Option<(usize, &str)> {
+    let (records, calls) = line.split_once(' ')?;
+    Some((records.parse::<usize>().ok()?, calls))
 }
 
 fn main(rt: HostRuntime) -> io::Result<()> {
     for line in BufReader::new(rt.alloc(), rt.stdin())?.lines(rt.alloc()) {
-        let line = line?;
-        match line.as_str().split_once(' ') {
-            Some((records, calls)) => match records.parse::<usize>() {
-                Ok(records) => answer(&rt, records, calls)?,
-                Err(_) => println!(rt; "no case")?,
-            },
+        match read(line?.as_str()) {
+            Some((records, calls)) => answer(&rt, records, calls)?,
             None => println!(rt; "no case")?,
         }
     }

@@ -3,38 +3,14 @@ use classifier::classify;
 use sources::RecordTable;
 use std::test::Fail;
 use tables::{ClauseRecord, ContextRecord};
-use terms::{Axiom, ClassSet, Fault, Layer};
+use terms::{Axiom, ClassSet, Layer, Refusal};
 
 /// An inclusion of the classes with the bits of `lower`.
+// The test crates share nothing but the crates under test.
 fn inclusion(lower: u64, upper: u64) -> Axiom {
     Axiom::Inclusion {
         lower: ClassSet::from_bits(lower),
         upper: ClassSet::from_bits(upper),
-    }
-}
-
-/// A context of no class.
-fn context() -> ContextRecord {
-    ContextRecord {
-        held: ClassSet::empty(),
-        denied: ClassSet::empty(),
-    }
-}
-
-/// A clause of no class.
-fn clause() -> ClauseRecord {
-    ClauseRecord {
-        context: 0,
-        classes: ClassSet::empty(),
-        part: None,
-    }
-}
-
-/// Number, place and layer of a refusal.
-fn refusal(told: Result<(), Fault>) -> Option<(u8, usize, Layer)> {
-    match told {
-        Ok(()) => None,
-        Err(fault) => Some((fault.kind.number(), fault.place, fault.layer)),
     }
 }
 
@@ -44,12 +20,12 @@ fn both_ways_lead_to_shared(rt: HostRuntime) -> Result<(), Fail> {
     let axioms = [inclusion(1, 6), inclusion(2, 8), inclusion(4, 8)];
     let mut source = RecordTable::new();
     source.open(4, 0, &axioms)?;
-    let mut contexts = [context(); 1];
-    let mut clauses = [clause(); 6];
+    let mut contexts = [ContextRecord::default(); 1];
+    let mut clauses = [ClauseRecord::default(); 6];
     let mut rows = [77; 5];
     assert_eq!(rt;
-        refusal(classify(&source, &mut contexts, &mut clauses, &mut rows)),
-        None
+        classify(&source, &mut contexts, &mut clauses, &mut rows),
+        Ok(())
     );
     assert_eq!(rt; rows, [9, 10, 12, 8, 77]);
     Ok(())
@@ -61,12 +37,12 @@ fn one_slot_too_few(rt: HostRuntime) -> Result<(), Fail> {
     let axioms = [inclusion(4, 6), inclusion(2, 8)];
     let mut source = RecordTable::new();
     source.open(4, 0, &axioms)?;
-    let mut contexts = [context(); 1];
-    let mut clauses = [clause(); 2];
+    let mut contexts = [ContextRecord::default(); 1];
+    let mut clauses = [ClauseRecord::default(); 2];
     let mut rows = [77; 4];
     assert_eq!(rt;
-        refusal(classify(&source, &mut contexts, &mut clauses, &mut rows)),
-        Some((23, 65, Layer::Ask))
+        classify(&source, &mut contexts, &mut clauses, &mut rows),
+        Err(Refusal::ClosureFull.at(65, Layer::Ask))
     );
     assert_eq!(rt; rows, [1, 77, 77, 77]);
     Ok(())
@@ -78,12 +54,12 @@ fn an_impossible_class(rt: HostRuntime) -> Result<(), Fail> {
     let axioms = [inclusion(1, 0), inclusion(2, 4)];
     let mut source = RecordTable::new();
     source.open(3, 0, &axioms)?;
-    let mut contexts = [context(); 1];
-    let mut clauses = [clause(); 8];
+    let mut contexts = [ContextRecord::default(); 1];
+    let mut clauses = [ClauseRecord::default(); 8];
     let mut rows = [0; 3];
     assert_eq!(rt;
-        refusal(classify(&source, &mut contexts, &mut clauses, &mut rows)),
-        None
+        classify(&source, &mut contexts, &mut clauses, &mut rows),
+        Ok(())
     );
     assert_eq!(rt; rows, [7, 6, 4]);
     Ok(())
@@ -93,18 +69,18 @@ fn an_impossible_class(rt: HostRuntime) -> Result<(), Fail> {
 #[test]
 fn none_and_all(rt: HostRuntime) -> Result<(), Fail> {
     let mut source = RecordTable::new();
-    let mut contexts = [context(); 1];
-    let mut clauses = [clause(); 2];
+    let mut contexts = [ContextRecord::default(); 1];
+    let mut clauses = [ClauseRecord::default(); 2];
     let mut rows = [77; 65];
     assert_eq!(rt;
-        refusal(classify(&source, &mut contexts, &mut clauses, &mut rows)),
-        None
+        classify(&source, &mut contexts, &mut clauses, &mut rows),
+        Ok(())
     );
     assert_eq!(rt; rows[0], 77);
     source.open(64, 16, &[])?;
     assert_eq!(rt;
-        refusal(classify(&source, &mut contexts, &mut clauses, &mut rows)),
-        None
+        classify(&source, &mut contexts, &mut clauses, &mut rows),
+        Ok(())
     );
     assert_eq!(rt; rows[0], 1);
     assert_eq!(rt; rows[63], 1 << 63);
@@ -117,12 +93,12 @@ fn none_and_all(rt: HostRuntime) -> Result<(), Fail> {
 fn too_few_rows(rt: HostRuntime) -> Result<(), Fail> {
     let mut source = RecordTable::new();
     source.open(3, 0, &[])?;
-    let mut contexts = [context(); 1];
-    let mut clauses = [clause(); 2];
+    let mut contexts = [ContextRecord::default(); 1];
+    let mut clauses = [ClauseRecord::default(); 2];
     let mut rows = [77; 2];
     assert_eq!(rt;
-        refusal(classify(&source, &mut contexts, &mut clauses, &mut rows)),
-        Some((11, 0, Layer::Classify))
+        classify(&source, &mut contexts, &mut clauses, &mut rows),
+        Err(Refusal::TableSize.at(0, Layer::Classify))
     );
     assert_eq!(rt; rows, [77, 77]);
     Ok(())

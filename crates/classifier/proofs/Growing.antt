@@ -1,5 +1,5 @@
 -- A row grows class by class, and the rows one by one.
-use Rattle.std.proofs.Common.{◌≡◌, ℕ, suc, ◌+◌, ◌*◌, ◌<◌, ◌≤◌, Bool, true, false, ◌⊎◌, ◌↔◌, List, length, get_or, set, sym, refl, ◌∙◌, subst, inl, inr, ⊎_elim, arith, length-set, below_more}
+use Rattle.std.proofs.Common.{◌≡◌, ℕ, suc, ◌+◌, ◌*◌, ◌<◌, ◌≤◌, Bool, true, false, ◌⊎◌, ◌↔◌, List, length, get_or, set, sym, ◌∙◌, subst, inl, inr, ⊎_elim, arith, length-set, below_more}
 use Rattle.std.proofs.lemmas.List.{get_or-set_same, get_or-set_other}
 use Rattle.std.proofs.lemmas.Bool.{cases_order}
 use Rattle.terms.specs.Sets.{Has, only, join, Below}
@@ -80,14 +80,6 @@ pub record RowsUpTo (m : Meaning) (n : ℕ) (s u : Lent) : Type 0 where
   pub last : (a c : ℕ) → n ≡ suc a → m.classes ≡ suc c → Holding m.axioms (goal a c) (length s.contexts) (length s.clauses) u.contexts u.clauses
   pub start : n ≡ 0 → (u.contexts ≡ s.contexts) × (u.clauses ≡ s.clauses)
 
-pub rows_none : (m : Meaning) (s : Lent) → RowsUpTo m 0 s s
-rows_none m s = record {
-  fits = λ a b i. absurd (omega arith);
-  rows = record { rows = λ a i. absurd (omega arith); rest = λ k i. refl; size = refl };
-  last = λ a c i. absurd (omega arith);
-  start = λ _. (refl, refl);
-}
-
 written_more : (m : Meaning) (n w : ℕ) (before now : List ℕ) → n < length now → Row m.axioms m.classes n w → Written m n before now → Written m (n + 1) before (set now n w)
 written_more m n w before now i r p = record {
   rows = below_more (λ a. Row m.axioms m.classes a (get_or (set now n w) a 0)) n
@@ -98,13 +90,13 @@ written_more m n w before now i r p = record {
 }
 
 module _ {m : Meaning} {n : ℕ} {s u : Lent} (so : RowsUpTo m n s u) (us : List ContextRecord) (vs : List ClauseRecord) where
-  pub rows_more : (w v : ℕ) → v ≡ w → n < length u.rows → RowUpTo m.axioms n m.classes w (length s.contexts) (length s.clauses) us vs → RowsUpTo m (n + 1) s (lent us vs (set u.rows n v))
-  rows_more w v e i r = subst (λ z. RowsUpTo m (n + 1) s (lent us vs (set u.rows n z))) (sym e) (record {
+  pub rows_more : (w v i : ℕ) → v ≡ w → i ≡ n → n < length u.rows → RowUpTo m.axioms n m.classes w (length s.contexts) (length s.clauses) us vs → RowsUpTo m (n + 1) s (lent us vs (set u.rows i v))
+  rows_more w v i e is l r = subst (λ z. RowsUpTo m (n + 1) s (lent us vs (set u.rows z v))) (sym is) (subst (λ z. RowsUpTo m (n + 1) s (lent us vs (set u.rows n z))) (sym e) (record {
     fits = λ a b j. below_more (λ d. (b : ℕ) → b < m.classes → PairFits m s d b) n (λ d h b g. so.fits d b h g) r.fits a j b;
-    rows = written_more m n w s.rows u.rows i r.row so.rows;
+    rows = written_more m n w s.rows u.rows l r.row so.rows;
     last = λ a c j h. let z : n ≡ a = omega arith in subst (λ d. Holding m.axioms (goal d c) (length s.contexts) (length s.clauses) us vs) z (r.last c h);
     start = λ j. absurd (omega arith);
-  })
+  }))
 
   pub rows_cut : m.classes ≤ 64 → n < m.classes → (p : ℕ) → RowCut m.axioms m.classes n p (length s.contexts) (length s.clauses) us vs → Stopped m s (lent us vs u.rows) p
   rows_cut few i p r = record {

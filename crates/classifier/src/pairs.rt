@@ -1,9 +1,7 @@
 //! One pair of classes: whether the one is under the other.
-ghost use Rattle.std.specs.Prelude.{◌≡◌, ◌<◌, ◌≤◌, length};
+ghost use Rattle.std.specs.Prelude.{◌<◌, ◌≤◌, length};
 ghost use Rattle.terms.specs.Refusals.{told};
-ghost use Rattle.sources.specs.Meanings.{Limits};
-ghost use Rattle.reasoner.specs.Asks.{verdict_of};
-ghost use Rattle.classifier.specs.Asking.{is_none, Asked};
+ghost use Rattle.classifier.specs.Asking.{Asked};
 
 use reasoner::{Answer, ask};
 use sources::Source;
@@ -13,15 +11,7 @@ use terms::{ClassSet, Fault};
 /// Places are numbered with this many upper classes for each lower class.
 const UPPER_PLACES: usize = 64;
 
-/// Whether the answer is none.
-fn refutes(answer: Answer) -> bool
-    ensures { result ≡ is_none (verdict_of answer) }
-{
-    match answer {
-        Answer::Nothing { .. } => true,
-        Answer::Something { .. } => false,
-    }
-}
+// The tables are lent as slices and pass through to the ask; `classify` has checked that they are within the most.
 
 /// Asks whether the lower class is under the upper class: whether nothing can be in the one and not in the other.
 pub fn is_under<S: Source>(
@@ -31,18 +21,15 @@ pub fn is_under<S: Source>(
     contexts: &mut [ContextRecord],
     clauses: &mut [ClauseRecord],
 ) -> Result<bool, Fault>
-    requires limits { Limits (S.Source.meaning source.now) }
     requires there { (lower < (S.Source.meaning source.now).classes) × (upper < (S.Source.meaning source.now).classes) }
     requires sizes { (length contexts.old ≤ 256) × (length clauses.old ≤ 65535) }
     ensures { Asked (S.Source.meaning source.now).axioms lower upper (length contexts.old) (length clauses.old) contexts.new clauses.new (told result) }
 {
     let held = ClassSet::single(lower);
     let denied = ClassSet::single(upper);
-    match ask(source, held, denied, contexts, clauses) {
-        Ok(answer) => Ok(refutes(answer)),
-        Err(fault) => {
-            let place = lower as usize * UPPER_PLACES + upper as usize;
-            Err(fault.kind.at(place, fault.layer))
-        }
-    }
+    let place = usize::from(lower) * UPPER_PLACES + usize::from(upper);
+    let answer = ask(source, held, denied, contexts, clauses).map_err(|fault| fault
+        .kind
+        .at(place, fault.layer))?;
+    Ok(matches!(answer, Answer::Nothing { .. }))
 }

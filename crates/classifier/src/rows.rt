@@ -1,7 +1,6 @@
 //! Classification: a row of bits for each class.
 ghost use Rattle.std.specs.Prelude.{◌≡◌, ◌<◌, ◌≤◌, length};
 ghost use Rattle.terms.specs.Refusals.{Told, told};
-ghost use Rattle.sources.specs.Meanings.{Limits};
 ghost use Rattle.classifier.specs.Under.{Lent, lent, Classified};
 ghost use Rattle.classifier.specs.Asking.{RowAsked};
 
@@ -11,6 +10,8 @@ use sources::Source;
 use tables::{ClauseRecord, ContextRecord};
 use terms::{ClassSet, Fault, Layer, Refusal};
 
+// The tables are lent as slices and pass through to each ask; `classify` has checked that they are within the most.
+
 /// The classes that the lower class is under, asked one by one.
 fn row_of<S: Source>(
     source: &S,
@@ -18,15 +19,13 @@ fn row_of<S: Source>(
     contexts: &mut [ContextRecord],
     clauses: &mut [ClauseRecord],
 ) -> Result<ClassSet, Fault>
-    requires limits { Limits (S.Source.meaning source.now) }
     requires there { lower < (S.Source.meaning source.now).classes }
     requires sizes { (length contexts.old ≤ 256) × (length clauses.old ≤ 65535) }
     ensures { RowAsked (S.Source.meaning source.now) lower (length contexts.old) (length clauses.old) contexts.new clauses.new (told result) }
 {
     let mut row = ClassSet::empty();
     for upper in 0..source.class_count() {
-        let under = is_under(source, lower, upper, contexts, clauses)?;
-        if under {
+        if is_under(source, lower, upper, contexts, clauses)? {
             row = row.with(upper);
         }
     }
@@ -43,20 +42,19 @@ pub fn classify<S: Source>(
     clauses: &mut [ClauseRecord],
     rows: &mut [u64],
 ) -> Result<(), Fault>
-    requires { Limits (S.Source.meaning source.now) }
     ensures gives { Classified (S.Source.meaning source.now) (lent contexts.old clauses.old rows.old) (lent contexts.new clauses.new rows.new) (told result) }
     ensures only { (u : Lent) (t : Told (Unit {0})) → Classified (S.Source.meaning source.now) (lent contexts.old clauses.old rows.old) u t → (t ≡ told result) × (u.rows ≡ rows.new) }
 {
     let classes = source.class_count();
-    if rows.len() < classes as usize
+    if rows.len() < usize::from(classes)
         || contexts.len() > MOST_CONTEXTS
         || clauses.len() > MOST_CLAUSES
     {
         return Err(Refusal::TableSize.at(0, Layer::Classify));
     }
+    // By class: over the rows it would take their leading part, and a cast of each place to its class.
     for lower in 0..classes {
-        let row = row_of(source, lower, contexts, clauses)?;
-        rows[lower as usize] = row.bits();
+        rows[usize::from(lower)] = row_of(source, lower, contexts, clauses)?.bits();
     }
     Ok(())
 }

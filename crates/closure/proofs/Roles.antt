@@ -1,8 +1,8 @@
 -- Which roles reach which, tested one axiom after another.
-use Rattle.std.proofs.Common.{◌≡◌, ℕ, Bool, true, ◌&&◌, ◌||◌, eqb, ◌⊎◌, List, [], ◌∷◌, refl, subst, inl, inr, ⊎_elim, arith}
+use Rattle.std.proofs.Common.{◌≡◌, ℕ, Bool, true, false, ◌&&◌, ◌||◌, eqb, ◌⊎◌, List, [], ◌∷◌, sym, refl, ap, subst, inl, inr, ⊎_elim}
 use mathlib.Core.List.Memᴰ
 use mathlib.Core.List.{Memᴰ}
-use Rattle.std.proofs.lemmas.Bool.{eqb-true, eq-eqb, and_parts, and_from, or_cases, or_left, or_right}
+use Rattle.std.proofs.lemmas.Bool.{eqb-true, eq-eqb, and_parts, and_from, or_cases, or_left, or_right, both_ways}
 use Rattle.terms.specs.declared.axioms.Axiom.{Axiom}
 use Rattle.terms.specs.declared.axioms.Axiom.TheVariants.{Inclusion, Exists, ExistsLower, Forall, RoleInclusion}
 use Rattle.closure.specs.Closures.{Reaches, here, step}
@@ -20,11 +20,19 @@ reach_none : {p q : ℕ} → Reaches [] p q → p ≡ q
 reach_none here = refl
 reach_none (step r m) = absurd (Memᴰ.not-nil m)
 
--- an axiom of another form leads nowhere
-reach_other : {x : Axiom} {axs : List Axiom} {p q : ℕ} → ((u v : ℕ) → RoleInclusion u v ≡ x → ⊥) → Reaches (x ∷ axs) p q → Reaches axs p q
+-- the axiom is the inclusion of a role in a role
+abbrev is_role : Axiom → Bool
+is_role (Inclusion l m) = false
+is_role (Exists a r b) = false
+is_role (ExistsLower r a b) = false
+is_role (Forall a r b) = false
+is_role (RoleInclusion a b) = true
+
+-- where the axiom ahead is of another form, a way goes on without it
+reach_other : {x : Axiom} {axs : List Axiom} {p q : ℕ} → is_role x ≡ false → Reaches (x ∷ axs) p q → Reaches axs p q
 reach_other n here = here
 reach_other {x} {axs} n (step {q = q} {r = r} f m) = ⊎_elim
-    (λ (e : RoleInclusion q r ≡ x). absurd (n q r e))
+    (λ (e : RoleInclusion q r ≡ x). absurd (both_ways (is_role x) n (sym (ap is_role e))))
     (λ (k : Memᴰ (RoleInclusion q r) axs). step (reach_other n f) k)
     (Memᴰ.cases_cons m)
 
@@ -67,10 +75,10 @@ leads_of (RoleInclusion a b ∷ axs) p q e = elim (or_cases (leads axs p q) (lea
 pub reach_leads : (axs : List Axiom) (p q : ℕ) → Reaches axs p q → leads axs p q ≡ true
 unfolding leads
 reach_leads [] p q r = eq-eqb p q (reach_none r)
-reach_leads (Inclusion l m ∷ axs) p q r = reach_leads axs p q (reach_other (λ u v e. let z : ◌≡◌ {A = ℕ} 0 1 = cc in omega arith) r)
-reach_leads (Exists a s b ∷ axs) p q r = reach_leads axs p q (reach_other (λ u v e. let z : ◌≡◌ {A = ℕ} 0 1 = cc in omega arith) r)
-reach_leads (ExistsLower s a b ∷ axs) p q r = reach_leads axs p q (reach_other (λ u v e. let z : ◌≡◌ {A = ℕ} 0 1 = cc in omega arith) r)
-reach_leads (Forall a s b ∷ axs) p q r = reach_leads axs p q (reach_other (λ u v e. let z : ◌≡◌ {A = ℕ} 0 1 = cc in omega arith) r)
+reach_leads (Inclusion l m ∷ axs) p q r = reach_leads axs p q (reach_other refl r)
+reach_leads (Exists a s b ∷ axs) p q r = reach_leads axs p q (reach_other refl r)
+reach_leads (ExistsLower s a b ∷ axs) p q r = reach_leads axs p q (reach_other refl r)
+reach_leads (Forall a s b ∷ axs) p q r = reach_leads axs p q (reach_other refl r)
 reach_leads (RoleInclusion a b ∷ axs) p q r = elim (reach_split r) [
   | inl f ↦ or_left (leads axs p q) (leads axs p a && leads axs b q) (reach_leads axs p q f)
   | inr f ↦ or_right (leads axs p q) (leads axs p a && leads axs b q) (and_from (leads axs p a) (leads axs b q) (reach_leads axs p a f.0) (reach_leads axs b q f.1))

@@ -10,6 +10,46 @@ use std::io;
 use std::io::{BufRead, BufReader};
 use terms::{Fault, Layer, Refusal};
 
+/// A case, which is a line of words.
+#[derive(Clone, Copy)]
+enum Case<'a> {
+    /// Declares the next class by this name.
+    Class(&'a str),
+    /// Makes the line of two classes.
+    Under {
+        size: usize,
+        lower: u8,
+        upper: u8,
+    },
+    /// Makes the line of a refusal.
+    Refusal {
+        size: usize,
+        kind: Refusal,
+        place: usize,
+    },
+}
+
+impl<'a> Case<'a> {
+    /// The case that a line is, if it is one.
+    fn read(line: &'a str) -> Option<Self> {
+        let mut words = line.split(' ');
+        match words.next()? {
+            "class" => Some(Case::Class(words.next()?)),
+            "under" => Some(Case::Under {
+                size: words.next()?.parse().ok()?,
+                lower: words.next()?.parse().ok()?,
+                upper: words.next()?.parse().ok()?,
+            }),
+            "refusal" => Some(Case::Refusal {
+                size: words.next()?.parse().ok()?,
+                kind: Refusal::try_from(words.next()?.parse::<u8>().ok()?).ok()?,
+                place: words.next()?.parse().ok()?,
+            }),
+            _ => None,
+        }
+    }
+}
+
 /// Appends the field of a class of that name.
 fn push_class(sheet: &mut Vec<u8>, name: &str) -> Result<(), AllocError> {
     let len = name.len();
@@ -48,71 +88,14 @@ fn tell_refusal(rt: &HostRuntime, size: usize, kind: Refusal, place: usize) -> i
     tell(rt, answer, &buffer)
 }
 
-/// The number that a word spells.
-fn number(word: Option<&str>) -> Option<usize> {
-    match word?.parse::<usize>() {
-        Ok(number) => Some(number),
-        Err(_) => None,
-    }
-}
-
-/// The number below 256 that a word spells.
-fn byte(word: Option<&str>) -> Option<u8> {
-    match word?.parse::<u8>() {
-        Ok(number) => Some(number),
-        Err(_) => None,
-    }
-}
-
-/// The kind of refusal whose number a word spells.
-fn kind_of(word: Option<&str>) -> Option<Refusal> {
-    match byte(word)? {
-        1 => Some(Refusal::SheetTooLong),
-        2 => Some(Refusal::CutShort),
-        3 => Some(Refusal::UnknownTag),
-        4 => Some(Refusal::WrongLength),
-        5 => Some(Refusal::NameByte),
-        6 => Some(Refusal::NameRepeated),
-        7 => Some(Refusal::Undeclared),
-        8 => Some(Refusal::TooWide),
-        9 => Some(Refusal::TooMany),
-        10 => Some(Refusal::PastEnd),
-        11 => Some(Refusal::TableSize),
-        12 => Some(Refusal::WorldSize),
-        13 => Some(Refusal::BadLink),
-        20 => Some(Refusal::BookFull),
-        21 => Some(Refusal::NoOwnAxiom),
-        22 => Some(Refusal::ListFull),
-        23 => Some(Refusal::ClosureFull),
-        _ => None,
-    }
-}
-
 /// Carries out one case, or says that it is none; the sheet's text is what was declared before it.
 fn carry_out(rt: &HostRuntime, sheet: &mut Vec<u8>, line: &str) -> io::Result<()> {
-    let mut words = line.split(' ');
-    let (what, first, second, third) = (words.next(), words.next(), words.next(), words.next());
-    if let (Some("class"), Some(name)) = (what, first) {
-        return Ok(push_class(sheet, name)?);
+    match Case::read(line) {
+        Some(Case::Class(name)) => Ok(push_class(sheet, name)?),
+        Some(Case::Under { size, lower, upper }) => tell_under(rt, sheet, size, lower, upper),
+        Some(Case::Refusal { size, kind, place }) => tell_refusal(rt, size, kind, place),
+        None => println!(rt; "no case"),
     }
-    let size = number(first);
-    if let (Some("under"), Some(size), Some(lower), Some(upper)) = (
-        what,
-        size,
-        byte(second),
-        byte(third),
-    ) {
-        return tell_under(rt, sheet, size, lower, upper);
-    }
-    if let (Some("refusal"), Some(size), Some(kind), Some(place)) = (
-        what,
-        size,
-        kind_of(second),
-        number(third),
-    ) {
-        return tell_refusal(rt, size, kind, place);
-    }
-    println!(rt; "no case")
 }
 
 fn main(rt: HostRuntime) -> io::Result<()> {

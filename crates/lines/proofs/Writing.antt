@@ -1,34 +1,51 @@
 -- Writing one piece of a line behind another.
-use Rattle.std.proofs.Common.{◌≡◌, ℕ, ◌+◌, ◌≤◌, List, ◌++◌, length, take, drop, codes, decimal, sym, refl, ap, ◌∙◌, subst, append_assoc, zero-add, length-append}
+use Rattle.std.proofs.Common.{◌≡◌, ℕ, Result, Ok, ◌+◌, List, ◌++◌, length, take, drop, codes, decimal, sym, refl, ap, ◌∙◌, subst, append_assoc, zero-add, arith, length-append}
 use lib.Seq.{paste}
-use borrow.Rule.Slice.PartMut.{put_mid}
 use Rattle.std.proofs.lemmas.List.Edits.{paste_all, paste-paste}
-use Rattle.std.proofs.lemmas.Slice.{put_mid-paste}
 use Rattle.terms.specs.declared.refusals.Fault.{Fault}
-use Rattle.terms.specs.Refusals.{number}
+use Rattle.terms.specs.Refusals.{number, Told, done, refused, told}
 use Rattle.lines.specs.Lines.{Wrote, feed, refusal_bytes}
+use Rattle.lines.specs.Writing.{Writes}
+use Rattle.lines.specs.declared.writer.Writer.{Writer}
 
-pub wrote_paste : {u v text : List ℕ} {place n : ℕ} → n ≡ length text → v ≡ paste u place text n → Wrote u place text v
+wrote_paste : {u v text : List ℕ} {place n : ℕ} → n ≡ length text → v ≡ paste u place text n → Wrote u place text v
 wrote_paste {u} {v} {text} {place} {n} e p = record { is = p ∙ paste_all u place text n e ∙ ap (λ k. take place u ++ (text ++ drop (place + k) u)) e }
 
 paste_from : {u v text : List ℕ} {place : ℕ} → Wrote u place text v → v ≡ paste u place text (length text)
 paste_from {u} {v} {text} {place} w = w.is ∙ sym (paste_all u place text (length text) refl)
 
-pub wrote_part : (u text ys : List ℕ) (place k : ℕ) → ys ≡ text → k ≡ length text → Wrote u place text (put_mid place k u ys)
-wrote_part u text ys place k e l = wrote_paste refl (put_mid-paste place k u ys text (length text) e (sym l) refl)
+-- ---- what a source told
 
-pub wrote_same : {u v a : List ℕ} {place : ℕ} (b : List ℕ) → a ≡ b → Wrote u place a v → Wrote u place b v
-wrote_same {u} {v} {a} {place} b e w = subst (λ t. Wrote u place t v) e w
+value : Told ℕ → ℕ
+value (done v) = v
+value (refused n p y) = 0
 
-pub and_then : {u v w a b : List ℕ} {place next : ℕ} → place ≤ length u → next ≡ place + length a → Wrote u place a v → Wrote v next b w → Wrote u place (a ++ b) w
-and_then {u} {v} {w} {a} {b} {place} {next} within e f g =
-    let second : Wrote v (place + length a) b w = subst (λ n. Wrote v n b w) e g in
-    wrote_paste (sym (length-append a b))
-    (paste_from second ∙ ap (λ x. paste x (place + length a) b (length b)) (paste_from f) ∙ paste-paste u place a b (length a) (length b) refl refl within)
+pub unwrapped : (r : Result ℕ Fault) (x y : ℕ) → r ≡ Ok x → told r ≡ done y → x ≡ y
+unfolding value
+unwrapped r x y e t = ap value (ap told (sym e) ∙ t)
+
+-- ---- one piece behind another
+
+pub writes_same : {u v : Writer} {a : List ℕ} (b : List ℕ) → a ≡ b → Writes u a v → Writes u b v
+writes_same {u} {v} b e w = subst (λ t. Writes u t v) e w
+
+pub and_then : {u v w : Writer} {a b : List ℕ} → Writes u a v → Writes v b w → Writes u (a ++ b) w
+and_then {u} {v} {w} {a} {b} f g =
+    let second : Wrote v.buffer.now (u.place + length a) b w.buffer.now = subst (λ n. Wrote v.buffer.now n b w.buffer.now) f.ends g.wrote in
+    record {
+      same = g.same ∙ f.same;
+      ends = omega (arith, f.ends, g.ends, length-append a b);
+      size = g.size ∙ f.size;
+      wrote = wrote_paste (sym (length-append a b))
+          (paste_from second ∙ ap (λ x. paste x (u.place + length a) b (length b)) (paste_from f.wrote)
+          ∙ paste-paste u.buffer.now u.place a b (length a) (length b) refl refl u.within);
+    }
 
 -- a line from the buffer's start
-pub from_start : {u v line : List ℕ} → Wrote u 0 line v → v ≡ line ++ drop (length line) u
-from_start {u} {v} {line} w = w.is ∙ ap (λ n. line ++ drop n u) (zero-add (length line))
+pub from_start : {u v : Writer} {before line : List ℕ} → u.place ≡ 0 → u.buffer.now ≡ before → Writes u line v → v.buffer.now ≡ line ++ drop (length line) before
+from_start {u} {v} {before} {line} z e w =
+    let at : Wrote u.buffer.now 0 line v.buffer.now = subst (λ p. Wrote u.buffer.now p line v.buffer.now) z w.wrote in
+    at.is ∙ ap (λ n. line ++ drop n u.buffer.now) (zero-add (length line)) ∙ ap (λ b. line ++ drop (length line) b) e
 
 regrouped : (a b c d e : List ℕ) → a ++ (b ++ (c ++ (d ++ e))) ≡ (a ++ (b ++ (c ++ d))) ++ e
 regrouped a b c d e = simp append_assoc

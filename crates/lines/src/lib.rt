@@ -7,6 +7,7 @@
 mod pieces;
 pub mod refusal;
 pub mod under;
+mod writer;
 
 pub use pieces::MOST_BYTES;
 pub use refusal::refusal_line;

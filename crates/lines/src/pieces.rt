@@ -1,53 +1,83 @@
 //! The pieces of a line, written one behind the other: fixed bytes, names and numbers.
-ghost use Rattle.std.specs.Prelude.{◌≡◌, ◌+◌, ◌<◌, ◌≤◌, length, decimal};
+ghost use Rattle.std.specs.Prelude.{◌≡◌, ◌+◌, ◌<◌, ◌≤◌, [], ◌∷◌, length, decimal};
+ghost use Rattle.terms.specs.Refusals.{Answers, told};
 ghost use Rattle.sources.specs.Meanings.{name_of};
-ghost use Rattle.lines.specs.Lines.{Wrote};
+ghost use Rattle.lines.specs.Lines.{in_line, refusal_checks};
+ghost use Rattle.lines.specs.Writing.{Writes};
 
+use crate::writer::Writer;
 use sources::Source;
+use terms::{Fault, Layer, Refusal};
 
 /// No line has more bytes: two names of 40, seven between them and a line feed.
 pub const MOST_BYTES: usize = 88;
 
-/// Writes bytes from a place on, and says where they end.
-pub(crate) fn put_bytes(buffer: &mut [u8], place: usize, bytes: &[u8]) -> usize
-    requires { place + length bytes.now ≤ length buffer.old }
-    ensures ends { result ≡ place + length bytes.now }
-    ensures wrote { Wrote buffer.old place bytes.now buffer.new }
+/// Refuses a buffer of fewer than 88 bytes.
+pub(crate) fn check_room(buffer: &[u8]) -> Result<(), Fault>
+    ensures { Answers (refusal_checks buffer.now) 0 in_line (λ _. Unit {0}) (told result) }
 {
-    let end = place + bytes.len();
-    buffer[place..end].copy_from_slice(bytes);
-    end
+    if buffer.len() < MOST_BYTES {
+        return Err(Refusal::TableSize.at(0, Layer::Line));
+    }
+    Ok(())
 }
 
-/// Writes the name of a class that is there from a place on, and says where it ends.
-pub(crate) fn put_name<S: Source>(buffer: &mut [u8], place: usize, source: &S, class: u8) -> usize
-    requires there { class < (S.Source.meaning source.now).classes }
-    requires room { place + length (name_of (S.Source.meaning source.now) class) ≤ length buffer.old }
-    ensures ends { result ≡ place + length (name_of (S.Source.meaning source.now) class) }
-    ensures wrote { Wrote buffer.old place (name_of (S.Source.meaning source.now) class) buffer.new }
-{
-    let len = match source.name_len(class) {
-        Ok(len) => len,
-        Err(_) => unreachable(),
-    };
-    for i in 0..len {
-        match source.name_byte(class, i) {
-            Ok(byte) => buffer[place + i] = byte,
-            Err(_) => unreachable(),
+impl<'a> Writer<'a> {
+    /// Begins a line at the start of a buffer.
+    pub(crate) fn new(buffer: &'a mut [u8]) -> Self
+        ensures place { result.place ≡ 0 }
+        ensures buffer { result.buffer ≡ buffer.entry }
+    {
+        Writer { buffer, place: 0 }
+    }
+
+    /// How many bytes are written.
+    pub(crate) fn len(&self) -> usize
+        ensures { result ≡ self.now.place }
+    {
+        self.place
+    }
+
+    /// Writes a byte.
+    fn byte(&mut self, byte: u8)
+        requires { self.old.place < length self.old.buffer.now }
+        ensures { Writes self.old (byte ∷ []) self.new }
+    {
+        self.buffer[self.place] = byte;
+        self.place += 1;
+    }
+
+    /// Writes bytes.
+    pub(crate) fn bytes(&mut self, bytes: &[u8])
+        requires { self.old.place + length bytes.now ≤ length self.old.buffer.now }
+        ensures { Writes self.old bytes.now self.new }
+    {
+        let end = self.place + bytes.len();
+        self.buffer[self.place..end].copy_from_slice(bytes);
+        self.place = end;
+    }
+
+    /// Writes the name of a class that is there.
+    pub(crate) fn name<S: Source>(&mut self, source: &S, class: u8)
+        requires there { class < (S.Source.meaning source.now).classes }
+        requires room { self.old.place + length (name_of (S.Source.meaning source.now) class) ≤ length self.old.buffer.now }
+        ensures { Writes self.old (name_of (S.Source.meaning source.now) class) self.new }
+    {
+        // A source answers a name byte by byte, by its index, so the loop counts.
+        for i in 0..source.name_len(class).unwrap() {
+            self.byte(source.name_byte(class, i).unwrap());
         }
     }
-    place + len
-}
 
-/// Writes a number in decimal from a place on, and says where it ends.
-pub(crate) fn put_decimal(buffer: &mut [u8], place: usize, number: usize) -> usize
-    requires { place + length (decimal number) ≤ length buffer.old }
-    ensures ends { result ≡ place + length (decimal number) }
-    ensures wrote { Wrote buffer.old place (decimal number) buffer.new }
-{
-    if number < 10 {
-        return put_bytes(buffer, place, &[b'0' + number as u8]);
+    /// Writes a number in decimal.
+    // Digit by digit: `write!` answers that it may fail, and a line that has room may not.
+    pub(crate) fn decimal(&mut self, number: usize)
+        requires { self.old.place + length (decimal number) ≤ length self.old.buffer.now }
+        ensures { Writes self.old (decimal number) self.new }
+    {
+        if number >= 10 {
+            self.decimal(number / 10);
+        }
+        self.byte(b'0' + (number % 10) as u8);
     }
-    let end = put_decimal(buffer, place, number / 10);
-    put_bytes(buffer, end, &[b'0' + (number % 10) as u8])
 }

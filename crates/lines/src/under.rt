@@ -1,12 +1,12 @@
 //! The line that says that a class is under another.
 ghost use Rattle.std.specs.Prelude.{◌≡◌};
 ghost use Rattle.terms.specs.Refusals.{Answers, told};
-ghost use Rattle.sources.specs.Meanings.{Limits};
 ghost use Rattle.lines.specs.Lines.{in_line, under_bytes, under_checks, Long, buffer_after};
 
-use crate::pieces::{MOST_BYTES, put_bytes, put_name};
+use crate::pieces::check_room;
+use crate::writer::Writer;
 use sources::Source;
-use terms::{Fault, Layer, Refusal};
+use terms::{Fault, Layer};
 
 /// Writes the lower class's name, ` under `, the upper class's name and a line feed at the start of the buffer, and says how many
 /// bytes that is; or refuses a class that is not there, and then a buffer of fewer than 88 bytes.
@@ -16,20 +16,19 @@ pub fn under_line<S: Source>(
     upper: u8,
     buffer: &mut [u8],
 ) -> Result<usize, Fault>
-    requires { Limits (S.Source.meaning source.now) }
     ensures gives { Answers (under_checks (S.Source.meaning source.now) lower upper buffer.old) 0 in_line
         (Long (under_bytes (S.Source.meaning source.now) lower upper)) (told result) }
     ensures after { buffer.new ≡ buffer_after (under_bytes (S.Source.meaning source.now) lower upper) buffer.old (told result) }
 {
     let classes = source.class_count();
     if lower >= classes || upper >= classes {
-        return Err(Refusal::PastEnd.at(0, Layer::Line));
+        return Err(Layer::Line.past_end());
     }
-    if buffer.len() < MOST_BYTES {
-        return Err(Refusal::TableSize.at(0, Layer::Line));
-    }
-    let lower_end = put_name(buffer, 0, source, lower);
-    let word_end = put_bytes(buffer, lower_end, b" under ");
-    let upper_end = put_name(buffer, word_end, source, upper);
-    Ok(put_bytes(buffer, upper_end, b"\n"))
+    check_room(buffer)?;
+    let mut line = Writer::new(buffer);
+    line.name(source, lower);
+    line.bytes(b" under ");
+    line.name(source, upper);
+    line.bytes(b"\n");
+    Ok(line.len())
 }

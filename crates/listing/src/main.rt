@@ -1,11 +1,6 @@
 //! Reads an office's sheet from standard input, and prints which classes are under which others, or why that is refused.
 #![tactic(auto)]
 
-ghost use Rattle.std.specs.Prelude.{◌≤◌, length};
-ghost use Rattle.sources.specs.Meanings.{Limits};
-ghost use Rattle.sheets.specs.Sheets.{meaning_of};
-ghost use Rattle.sheets.specs.Held.{held};
-
 use classifier::classify;
 use lines::{MOST_BYTES, refusal_line, under_line};
 use sheets::Sheet;
@@ -23,35 +18,22 @@ const CONTEXTS: usize = 64;
 const CLAUSES: usize = 1024;
 
 /// Classifies an open sheet into the rows.
-fn fill_rows(sheet: &Sheet, rows: &mut [u64]) -> Result<(), Fault>
-    requires { Limits (meaning_of (held sheet.now)) }
-{
-    let none = ClassSet::empty();
-    let mut contexts = [ContextRecord {
-        held: none,
-        denied: none,
-    }; CONTEXTS];
-    let mut clauses = [ClauseRecord {
-        context: 0,
-        classes: none,
-        part: None,
-    }; CLAUSES];
+fn fill_rows(sheet: &Sheet, rows: &mut [u64]) -> Result<(), Fault> {
+    let mut contexts = [ContextRecord::default(); CONTEXTS];
+    let mut clauses = [ClauseRecord::default(); CLAUSES];
     classify(sheet, &mut contexts, &mut clauses, rows)
 }
 
 /// Prints the line of a refusal.
+// The length comes beside the buffer, here and below, since `lines` has no heap.
 fn tell(rt: &HostRuntime, fault: Fault) -> io::Result<()> {
     let mut buffer = [0; MOST_BYTES];
-    match refusal_line(fault, &mut buffer) {
-        Ok(len) => rt.write_all(&buffer[..len]),
-        Err(_) => Ok(()),
-    }
+    let len = refusal_line(fault, &mut buffer).unwrap();
+    rt.write_all(&buffer[..len])
 }
 
 /// Appends the line of a class under another.
-fn push_line(lines: &mut Vec<u8>, sheet: &Sheet, lower: u8, upper: u8) -> Result<(), AllocError>
-    requires { Limits (meaning_of (held sheet.now)) }
-{
+fn push_line(lines: &mut Vec<u8>, sheet: &Sheet, lower: u8, upper: u8) -> Result<(), AllocError> {
     let mut buffer = [0; MOST_BYTES];
     if let Ok(len) = under_line(sheet, lower, upper, &mut buffer) {
         lines.extend_from_slice(&buffer[..len])?;
@@ -60,21 +42,19 @@ fn push_line(lines: &mut Vec<u8>, sheet: &Sheet, lower: u8, upper: u8) -> Result
 }
 
 /// Prints a line for each class and each other class that it is under.
-fn list(rt: &HostRuntime, sheet: &Sheet, rows: &[u64]) -> io::Result<()>
-    requires { (Limits (meaning_of (held sheet.now))) × (64 ≤ length rows.now) }
-{
+fn list(rt: &HostRuntime, sheet: &Sheet, rows: &[u64]) -> io::Result<()> {
     let mut lines = Vec::new(rt.alloc());
-    for lower in 0..sheet.class_count() {
-        for upper in ClassSet::from_bits(rows[lower as usize])
-            .without(lower)
-            .classes()
-        {
-            push_line(&mut lines, sheet, lower, upper)?;
+    for (lower, row) in (0..sheet.class_count()).zip(rows) {
+        for upper in ClassSet::from_bits(*row).classes() {
+            if upper != lower {
+                push_line(&mut lines, sheet, lower, upper)?;
+            }
         }
     }
     rt.write_all(&lines)
 }
 
+// `report` reads its sheet in the same lines: they fill a `Vec`, and the crates below both programs have no heap.
 fn main(rt: HostRuntime) -> io::Result<()> {
     let mut text = Vec::new(rt.alloc());
     rt.stdin()

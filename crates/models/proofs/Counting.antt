@@ -1,8 +1,11 @@
 -- Elements by number: how many slots before one are live, and which slot has an element.
-use Rattle.std.proofs.Common.{◌≡◌, ℕ, zero, suc, ◌+◌, ◌<◌, ◌≤◌, Bool, true, false, ◌⊎◌, List, length, get_or, set, sym, refl, ap, ◌∙◌, subst, inl, inr, add-one, arith, length-set, below_more}
-use Rattle.std.proofs.lemmas.List.{get_or-set_same, get_or-set_other}
-use Rattle.std.proofs.lemmas.Bool.{cases_Bool, cases_eq, cases_lt}
-use Rattle.models.specs.Elements.{is_live, live_before}
+use Rattle.std.proofs.Common.{◌≡◌, ℕ, zero, suc, ◌+◌, ◌<◌, ◌≤◌, Bool, true, false, ◌⊎◌, List, length, get_or, set, is_some, Some, None, Option, sym, refl, ap, ◌∙◌, subst, inl, inr, add-one, arith, below_more}
+use Rattle.std.proofs.lemmas.List.{get_or-set_same, get_or-set_other, set-get_or, get_or_past, length-map}
+use Rattle.std.proofs.Math.ListN.{get_or-map}
+use Rattle.std.proofs.Math.Seq.{map-set_same}
+use Rattle.std.proofs.lemmas.Bool.{cases_Bool, cases_eq, cases_lt, both_ways}
+use Rattle.tables.specs.declared.records.ClauseRecord.{ClauseRecord}
+use Rattle.models.specs.Elements.{is_live, Tells, live_before, live_in, Numbered}
 
 module _ (live : List Bool) where
   pub live_none : live_before live 0 ≡ 0
@@ -87,22 +90,63 @@ module _ (live : List Bool) where
       let s = slot_at_stands n (live_before live h) (live_lt n h l e) in
       live_one (slot_at n (live_before live h)) h s.there e s.number
 
--- ---- the loop that numbers them
+-- ---- the loops that number them
 
--- the slots before k have their numbers
-pub record Counted (live : List Bool) (numbers : List ℕ) (count k : ℕ) : Type 0 where
-  pub size : length numbers ≡ 256
-  pub next : count ≡ live_before live k
-  pub right : (h : ℕ) → h < k → get_or numbers h 0 ≡ live_before live h
+-- which slots have a number is told by the first k clauses
+abbrev pub Started : List ClauseRecord → ℕ → List (Option ℕ) → Type 0
+Started xs k numbers = Tells xs k (live_in numbers)
 
-module _ (live : List Bool) (numbers : List ℕ) (count k : ℕ) (low : k < 256) (c : Counted live numbers count k) where
-  counted_set : (h : ℕ) → h < k + 1 → get_or (set numbers k count) h 0 ≡ live_before live h
-  counted_set = below_more (λ h. get_or (set numbers k count) h 0 ≡ live_before live h) k
-      (λ h l. get_or-set_other numbers k h count 0 (omega arith) ∙ c.right h l)
-      (get_or-set_same numbers k count 0 (omega (arith, c.size)) ∙ c.next)
+-- the same slots have a number as had one at first, and those before k have their own
+pub record Counted (first numbers : List (Option ℕ)) (count k : ℕ) : Type 0 where
+  pub live : live_in numbers ≡ live_in first
+  pub next : count ≡ live_before (live_in first) k
+  pub right : (h n : ℕ) → h < k → get_or numbers h None ≡ Some n → n ≡ live_before (live_in first) h
 
-  pub counted_yes : (count' : ℕ) → count' ≡ count + 1 → is_live live k ≡ true → Counted live (set numbers k count) count' (k + 1)
-  counted_yes count' v e = record { size = length-set numbers k count ∙ c.size; next = omega (arith, v, c.next, live_yes live k e); right = counted_set }
+-- a slot is live where it has a number
+pub live_at : (numbers : List (Option ℕ)) (h : ℕ) → is_live (live_in numbers) h ≡ is_some (get_or numbers h None)
+live_at numbers h = get_or-map is_some numbers h None
 
-  pub counted_no : (count' : ℕ) → count' ≡ count → is_live live k ≡ false → Counted live (set numbers k count) count' (k + 1)
-  counted_no count' v e = record { size = length-set numbers k count ∙ c.size; next = omega (arith, v, c.next, live_no live k e); right = counted_set }
+some_number : (o : Option ℕ) → is_some o ≡ true → (n : ℕ) × (o ≡ Some n)
+some_number None e = absurd (both_ways false refl e)
+some_number (Some n) e = (n, refl)
+
+-- and has one where it is live
+pub live_number : (numbers : List (Option ℕ)) (h : ℕ) → is_live (live_in numbers) h ≡ true → (n : ℕ) × (get_or numbers h None ≡ Some n)
+live_number numbers h e = some_number (get_or numbers h None) (sym (live_at numbers h) ∙ e)
+
+pub counted_none : (numbers : List (Option ℕ)) → Counted numbers numbers 0 0
+counted_none numbers = record { live = refl; next = sym (live_none (live_in numbers)); right = λ h n l. absurd (omega arith) }
+
+module _ {first numbers : List (Option ℕ)} {count k : ℕ} (c : Counted first numbers count k) where
+  here : is_live (live_in first) k ≡ is_some (get_or numbers k None)
+  here = ap (λ live. is_live live k) (sym c.live) ∙ live_at numbers k
+
+  pub counted_yes : (more : ℕ) (next : List (Option ℕ)) → next ≡ set numbers k (Some count) → more ≡ count + 1 → k < length (live_in first) → is_some (get_or numbers k None) ≡ true → Counted first next more (k + 1)
+  counted_yes more next v w low e = subst (λ ns. Counted first ns more (k + 1)) (sym v) (record {
+    live = map-set_same is_some numbers k (Some count) None (sym e) ∙ c.live;
+    next = omega (arith, w, c.next, live_yes (live_in first) k (here ∙ e));
+    right = λ h n. below_more (λ j. get_or (set numbers k (Some count)) j None ≡ Some n → n ≡ live_before (live_in first) j) k
+        (λ j l q. c.right j n l (sym (get_or-set_other numbers k j (Some count) None (omega arith)) ∙ q))
+        (λ q. let r : Some n ≡ Some count = sym q ∙ get_or-set_same numbers k (Some count) None (omega (arith, low, ap length c.live, length-map numbers is_some)) in let s : n ≡ count = cc in s ∙ c.next)
+        h;
+  })
+
+  pub counted_no : (more : ℕ) (next : List (Option ℕ)) → next ≡ set numbers k (get_or numbers k None) → more ≡ count → is_some (get_or numbers k None) ≡ false → Counted first next more (k + 1)
+  counted_no more next v w e = subst (λ ns. Counted first ns more (k + 1)) (sym (v ∙ set-get_or numbers k None)) (record {
+    live = c.live;
+    next = omega (arith, w, c.next, live_no (live_in first) k (here ∙ e));
+    right = λ h n. below_more (λ j. get_or numbers j None ≡ Some n → n ≡ live_before (live_in first) j) k
+        (λ j l. c.right j n l)
+        (λ q. absurd (both_ways (is_some (get_or numbers k None)) e (ap is_some q)))
+        h;
+  })
+
+-- what the first loop tells of all clauses, and the second counts to the end
+pub counted_all : {xs : List ClauseRecord} {first numbers : List (Option ℕ)} {count k j : ℕ} → 256 ≤ k → j ≡ length xs → Tells xs j (live_in first) → Counted first numbers count k → Numbered xs numbers
+counted_all {xs} {first} {numbers} {count} {k} {j} l last t c = record {
+  tells = subst (Tells xs (length xs)) (sym c.live) (subst (λ i. Tells xs i (live_in first)) last t);
+  right = λ h n e. subst (λ live. n ≡ live_before live h) (sym c.live) (elim (cases_lt h 256) [
+    | inl low ↦ c.right h n (omega arith) e
+    | inr high ↦ absurd (both_ways (is_some (get_or numbers h None)) (ap is_some (get_or_past numbers h None (omega (arith, t.size, ap length c.live, length-map numbers is_some)))) (ap is_some e))
+  ]);
+}

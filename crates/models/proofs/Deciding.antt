@@ -1,12 +1,11 @@
 -- Deciding the classes of an element by rising class.
-use Rattle.std.proofs.Common.{◌≡◌, ℕ, ◌+◌, ◌^◌, ◌<◌, ◌≤◌, Bool, true, false, not, ◌↔◌, List, length, is_some, Some, None, Decides, Option, sym, refl, ap, subst, inl, inr, arith, below_more, MatchOption}
-use borrow.Author.Tests.{clash}
+use Rattle.std.proofs.Common.{◌≡◌, ℕ, ◌+◌, ◌^◌, ◌<◌, ◌≤◌, ◌↔◌, List, length, Some, None, Option, sym, refl, subst, inl, inr, arith, below_more, MatchOption}
 use Rattle.std.proofs.lemmas.Bool.{cases_eq}
-use Rattle.terms.specs.Sets.{Has, only, join, without, Highest, Meet}
-use Rattle.terms.proofs.Masks.{zero_none, only_has, only_is, join_l, join_r, join_cases, highest_without, highest_unique, below_of, some_nonzero}
-use Rattle.tables.specs.declared.records.RolePart.{RolePart}
+use Rattle.terms.specs.Sets.{Has, only, join}
+use Rattle.terms.proofs.Masks.{zero_none, only_has, only_is, join_l, join_r, join_cases, highest_without, highest_unique, below_of}
 use Rattle.tables.specs.declared.records.ClauseRecord.{ClauseRecord}
-use Rattle.models.specs.Elements.{clause_at, Heads, Headed, Yields, Produces, Turns}
+use Rattle.tables.specs.Records.{Tops}
+use Rattle.models.specs.Elements.{clause_at, Heads, Headed, Produces, Turns}
 
 -- the classes below k are decided, and no other is in s
 pub record Decided (xs : List ClauseRecord) (h k s : ℕ) : Type 0 where
@@ -33,7 +32,7 @@ module _ (xs : List ClauseRecord) (h : ℕ) where
     below = p.below;
     yields = record {
       heads = p.yields.heads;
-      apart = λ c m k. p.yields.apart c m (f c (highest_without (clause_at xs p.by).classes.bits b c p.yields.heads.head m) k);
+      apart = λ c m k. p.yields.apart c m (f c (highest_without (clause_at xs p.by).classes.bits b c p.yields.heads.tops.highest m) k);
     };
   }
 
@@ -59,15 +58,16 @@ module _ (xs : List ClauseRecord) (h : ℕ) where
   decided_turn k s t (inl y) d = decided_yes k s t y.1 d y.0
   decided_turn k s t (inr n) d = decided_no k s t n.1 d n.0
 
-  -- a class that is no head is not produced
-  pub no_head : (hs s a : ℕ) → Headed xs h (length xs) hs → (Has hs a → ⊥) → Produces xs h s a → ⊥
-  no_head hs s a f n p = n (f p.by p.below a p.yields.heads)
-
   -- at the end
   pub decided_all : (hs s k : ℕ) → 64 ≤ k → hs < 2 ^ 64 → Headed xs h (length xs) hs → Decided xs h k s → (a : ℕ) → Has s a ↔ Produces xs h s a
   decided_all hs s k n l f d a = (d.from a, λ p. d.to a (let z = below_of 64 hs a l (f p.by p.below a p.yields.heads) in omega arith) p)
 
 -- ---- the heads
+
+-- what a clause with no head found has none of
+pub no_top : (x : ClauseRecord) (r : Option ℕ) → MatchOption r ((a : ℕ) → Tops x a → ⊥) (λ a. Tops x a × (a < 64)) → ((b : ℕ) → r ≡ Some b → ⊥) → (a : ℕ) → Tops x a → ⊥
+no_top x None m n = m
+no_top x (Some b) m n = absurd (n b refl)
 
 pub headed_no : (xs : List ClauseRecord) (h k s t : ℕ) → t ≡ s → ((a : ℕ) → Heads h a (clause_at xs k) → ⊥) → Headed xs h k s → Headed xs h (k + 1) t
 headed_no xs h k s t e n f = below_more (λ j. (a : ℕ) → Heads h a (clause_at xs j) → Has t a) k (λ j l a m. subst (λ u. Has u a) (sym e) (f j l a m)) (λ a m. absurd (n a m))
@@ -76,28 +76,4 @@ pub headed_yes : (xs : List ClauseRecord) (h k s b t : ℕ) → t ≡ join s (on
 headed_yes xs h k s b t e y f = below_more (λ j. (a : ℕ) → Heads h a (clause_at xs j) → Has t a) k
     (λ j l a m. subst (λ u. Has u a) (sym e) (join_l s (only b) a (f j l a m)))
     (λ a m. subst (λ u. Has u a) (sym e) (join_r s (only b) a
-    (subst (Has (only b)) (highest_unique (clause_at xs k).classes.bits b a y.head m.head) (only_has b))))
-
--- ---- what the tests of one clause say
-
--- the highest class that a search found
-pub found_highest : (D : ℕ) (r : Option ℕ) → MatchOption r (D ≡ 0) (λ a. Highest D a × (a < 64)) → (a : ℕ) → r ≡ Some a → Highest D a × (a < 64)
-found_highest D None h a e = let z : ◌≡◌ {A = ℕ} 0 1 = cc in absurd (omega arith)
-found_highest D (Some b) h a e = let q : b ≡ a = cc in subst (λ c. Highest D c × (c < 64)) q h
-
-pub highest_found : (D : ℕ) (r : Option ℕ) → MatchOption r (D ≡ 0) (λ a. Highest D a × (a < 64)) → (a : ℕ) → Highest D a → r ≡ Some a
-highest_found D None h a m = absurd (some_nonzero D a m.0 h)
-highest_found D (Some b) h a m = ap Some (highest_unique D b a h.0 m)
-
-pub none_part : (p : Option RolePart) → is_some p ≡ false → p ≡ None
-none_part None e = refl
-none_part (Some r) e = let z : ◌≡◌ {A = ℕ} 0 1 = cc in absurd (omega arith)
-
--- whether the other classes meet those seen
-pub yields_decides : (x : ClauseRecord) (h s a w : ℕ) (m : Bool) → w ≡ without x.classes.bits a → Heads h a x → Decides m (Meet w s) → Decides (not m) (Yields h s a x)
-yields_decides x h s a w true e y d = (
-  λ z. absurd (clash z),
-  λ v.
-      let t = d.0 refl in absurd (v.apart t.0 (subst (λ u. Has u t.0) e t.1) t.2),
-)
-yields_decides x h s a w false e y d = (λ z. record { heads = y; apart = λ b k l. clash (d.1 (b, subst (λ u. Has u b) (sym e) k, l)) }, λ v. refl)
+    (subst (Has (only b)) (highest_unique (clause_at xs k).classes.bits b a y.tops.highest m.tops.highest) (only_has b))))

@@ -1,19 +1,17 @@
 -- Marks on what the first clauses say, one clause after another.
-use Rattle.std.proofs.Common.{◌≡◌, ℕ, ◌+◌, ◌*◌, ◌/◌, ◌%◌, ◌<◌, ◌≤◌, Bool, true, false, ◌||◌, eqb, ◌⊎◌, ◌↔◌, List, length, get_or, set, replicate, Some, sym, refl, ap, ◌∙◌, subst, inl, inr, arith, length-set, below_more}
-use lib.ListN.{length-replicate}
-use Rattle.std.proofs.lemmas.List.{get_or-set_same, get_or-set_other}
+use Rattle.std.proofs.Common.{◌≡◌, ℕ, ◌+◌, ◌*◌, ◌/◌, ◌%◌, ◌<◌, ◌≤◌, Bool, true, false, ◌||◌, eqb, ◌⊎◌, ◌↔◌, List, length, get_or, set, Some, None, refl, sym, ap, ◌∙◌, subst, inl, inr, arith, length-set}
+use Rattle.std.proofs.lemmas.List.{get_or-set_same, get_or-set_other, get_or_read}
 use Rattle.std.proofs.lemmas.Bool.{cases_eq, both_ways, eqb-true, eq-eqb, or_cases, or_left, or_right}
 use Rattle.terms.specs.Sets.{has, Has, join}
 use Rattle.terms.proofs.Masks.{zero_none, join_l, join_r, join_cases}
 use Rattle.worlds.specs.Entries.{marked}
-use Rattle.worlds.proofs.Marking.{marked_none}
 use Rattle.tables.specs.Tables.{PartCites}
 use Rattle.tables.specs.declared.records.ContextRecord.{ContextRecord}
 use Rattle.tables.specs.declared.records.RolePart.{RolePart}
 use Rattle.tables.specs.declared.records.ClauseRecord.{ClauseRecord}
-use Rattle.models.specs.Elements.{clause_at, Safe, Empties, Emptied, is_live, Tells, live_before, Produces}
+use Rattle.models.specs.Elements.{no_clause, clause_at, Safe, Empties, Emptied, is_live, Tells, live_before, Produces}
 use Rattle.models.specs.Writing.{RoleBelow}
-use Rattle.models.specs.Targets.{Wishes, Wants, Beats, Beaten, Points, Row}
+use Rattle.models.specs.Targets.{Wishes, Wants, Beaten, Points, Row}
 
 -- ---- live slots
 
@@ -30,22 +28,22 @@ emptied_cases xs k h e = elim (cases_eq e.by k) [
 pub tells_none : (xs : List ClauseRecord) (live : List Bool) → length live ≡ 256 → ((h : ℕ) → h < 256 → is_live live h ≡ true) → Tells xs 0 live
 tells_none xs live n f = record { size = n; right = λ h l. (λ e m. omega (arith, m.below), λ e. f h l) }
 
-pub tells_no : (xs : List ClauseRecord) (k : ℕ) (live next : List Bool) → next ≡ live → (Empties (clause_at xs k).context (clause_at xs k) → ⊥) → Tells xs k live → Tells xs (k + 1) next
+pub tells_no : (xs : List ClauseRecord) (k : ℕ) (live next : List Bool) → next ≡ live → (((clause_at xs k).part ≡ None) × ((clause_at xs k).classes.bits ≡ 0) → ⊥) → Tells xs k live → Tells xs (k + 1) next
 tells_no xs k live next v n t = subst (Tells xs (k + 1)) (sym v) (record {
   size = t.size;
   right = λ h l. (
-    λ e m. elim (emptied_cases xs k h m) [ inl p ↦ (t.right h l).0 e p | inr p ↦ n (record { its = refl; is_plain = p.is_plain; none = p.none }) ],
+    λ e m. elim (emptied_cases xs k h m) [ inl p ↦ (t.right h l).0 e p | inr p ↦ n (p.is_plain, p.none) ],
     λ e. (t.right h l).1 (λ m. e (emptied_upto xs k h m)),
   );
 })
 
-pub tells_yes : (xs : List ClauseRecord) (k j : ℕ) (live next : List Bool) → next ≡ set live j false → j ≡ (clause_at xs k).context → j < 256 → Empties (clause_at xs k).context (clause_at xs k) → Tells xs k live → Tells xs (k + 1) next
+pub tells_yes : (xs : List ClauseRecord) (k j : ℕ) (live next : List Bool) → next ≡ set live j false → j ≡ (clause_at xs k).context → j < 256 → ((clause_at xs k).part ≡ None) × ((clause_at xs k).classes.bits ≡ 0) → Tells xs k live → Tells xs (k + 1) next
 tells_yes xs k j live next v q lj y t = subst (Tells xs (k + 1)) (sym v) (record {
   size = length-set live j false ∙ t.size;
   right = λ h l. elim (cases_eq h j) [
     | inl e ↦ (
       λ m. absurd (both_ways (is_live (set live j false) h) (ap (is_live (set live j false)) e ∙ get_or-set_same live j false false (omega (arith, t.size))) m),
-      λ m. absurd (m (record { by = k; below = omega arith; empties = record { its = sym (e ∙ q); is_plain = y.is_plain; none = y.none } })),
+      λ m. absurd (m (record { by = k; below = omega arith; empties = record { its = sym (e ∙ q); is_plain = y.0; none = y.1 } })),
     )
     | inr n ↦ (
       λ m p. elim (emptied_cases xs k h p) [
@@ -75,36 +73,25 @@ wants_last xs k h s r w = record { by = k; below = omega arith; wishes = w }
 pub wishes_one : (h s : ℕ) (q r : RolePart) (x : ClauseRecord) → Wishes h s q x → Wishes h s r x → q ≡ r
 wishes_one h s q r x v w = let e : ◌≡◌ {A = _} (Some q) (Some r) = sym v.is_part ∙ w.is_part in cc
 
-module _ (cs : List ContextRecord) (xs : List ClauseRecord) (h s : ℕ) where
-  pub beaten_none : (r : RolePart) → Beaten cs xs 0 h s r → ⊥
-  beaten_none r b = omega (arith, b.wanted.below)
-
-  pub beaten_no : (k : ℕ) (r : RolePart) → ((q : RolePart) → Wishes h s q (clause_at xs k) → Beats cs q r → ⊥) → (Beaten cs xs k h s r → ⊥) → Beaten cs xs (k + 1) h s r → ⊥
-  beaten_no k r n m b = elim (wants_cases xs k h s b.better b.wanted) [
-    | inl w ↦ m (record { better = b.better; wanted = w; beats = b.beats })
-    | inr w ↦ n b.better w b.beats
-  ]
-
-  pub beaten_yes : (k : ℕ) (q r : RolePart) → k < length xs → Wishes h s q (clause_at xs k) → Beats cs q r → Beaten cs xs (length xs) h s r
-  beaten_yes k q r l w b = record { better = q; wanted = wants_upto xs (k + 1) (length xs) h s q (omega arith) (wants_last xs k h s q w); beats = b }
-
 -- what a wanted role part cites
-pub wish_safe : (cs : List ContextRecord) (xs : List ClauseRecord) (k h s : ℕ) (r : RolePart) → Safe cs xs → k < length xs → Wishes h s r (clause_at xs k)
+pub wish_safe : {cs : List ContextRecord} {xs : List ClauseRecord} {h s : ℕ} {r : RolePart} (k : ℕ) → Safe cs xs → k < length xs → ((p : RolePart) → Some r ≡ Some p ↔ Wishes h s p (clause_at xs k))
     → (r.context < length cs) × (r.context < 256) × (r.role < 16)
-wish_safe cs xs k h s r safe l w =
+wish_safe {cs} {r = r} k safe l wish =
+    let w = (wish r).0 refl in
     let cited : r.context < length cs = subst (PartCites (length cs)) w.is_part (safe.cited k l).1 in
     (cited, omega (arith, safe.few), subst (RoleBelow 16) w.is_part (safe.low k l))
+
+-- what a clause cites, as a search of the clauses gives it
+pub safe_at : {cs : List ContextRecord} {xs : List ClauseRecord} → Safe cs xs → (k : ℕ) → k < length xs → (x : ClauseRecord) → x ≡ get_or xs k x → PartCites (length cs) x.part
+safe_at {cs} {xs} safe k l x e = subst (λ (y : ClauseRecord). PartCites (length cs) y.part) (sym (get_or_read xs k x l e no_clause)) (safe.cited k l).1
 
 -- ---- links by marks
 
 -- the marks are those of the first k clauses
 abbrev pub Pointed : List ContextRecord → List ClauseRecord → List Bool → ℕ → ℕ → ℕ → List ℕ → Type 0
-Pointed cs xs live h s k links = (length links ≡ 64) × ((p f : ℕ) → f < 256 → marked links (256 * p + f) ≡ true ↔ Points cs xs live k h s p f)
+Pointed cs xs live h s k links = (p f : ℕ) → f < 256 → marked links (256 * p + f) ≡ true ↔ Points cs xs live k h s p f
 
 module _ (cs : List ContextRecord) (xs : List ClauseRecord) (live : List Bool) (h s : ℕ) where
-  pub pointed_none : Pointed cs xs live h s 0 (replicate 64 0)
-  pointed_none = (length-replicate {A = ℕ} 64 0, λ p f l. (λ m. absurd (both_ways (marked (replicate 64 0) (256 * p + f)) (marked_none 64 (256 * p + f)) m), λ x. absurd (omega (arith, x.wanted.below))))
-
   points_upto : (k p f : ℕ) → Points cs xs live k h s p f → Points cs xs live (k + 1) h s p f
   points_upto k p f x = record { to = x.to; wanted = wants_upto xs k (k + 1) h s _ (omega arith) x.wanted; best = x.best; there = x.there; number = x.number }
 
@@ -119,45 +106,39 @@ module _ (cs : List ContextRecord) (xs : List ClauseRecord) (live : List Bool) (
   pub pointed_no : (k : ℕ) (links links' : List ℕ) → links' ≡ links
       → ((r : RolePart) → Wishes h s r (clause_at xs k) → is_live live r.context ≡ true → (Beaten cs xs (length xs) h s r → ⊥) → ⊥)
       → Pointed cs xs live h s k links → Pointed cs xs live h s (k + 1) links'
-  pointed_no k links links' e n d = subst (Pointed cs xs live h s (k + 1)) (sym e) (
-    d.0,
-    λ p f l. (
-      λ m. points_upto k p f ((d.1 p f l).0 m),
-      λ x. elim (points_cases k p f x) [ inl y ↦ (d.1 p f l).1 y | inr y ↦ absurd (n (record { role = p; context = y.0 }) y.1 y.3 y.2) ],
-    ),
-  )
+  pointed_no k links links' e n d = subst (Pointed cs xs live h s (k + 1)) (sym e) (λ p f l. (
+    λ m. points_upto k p f ((d p f l).0 m),
+    λ x. elim (points_cases k p f x) [ inl y ↦ (d p f l).1 y | inr y ↦ absurd (n (record { role = p; context = y.0 }) y.1 y.3 y.2) ],
+  ))
 
   -- it adds the one to r
-  pub pointed_yes : (k : ℕ) (r : RolePart) (links links' : List ℕ) (number : ℕ) → length links' ≡ 64 → live_before live r.context < 256 → number ≡ 256 * r.role + live_before live r.context
+  pub pointed_yes : (k : ℕ) (r : RolePart) (links links' : List ℕ) (number : ℕ) → live_before live r.context < 256 → number ≡ 256 * r.role + live_before live r.context
       → ((j : ℕ) → marked links' j ≡ (eqb j number || marked links j))
       → Wishes h s r (clause_at xs k) → is_live live r.context ≡ true → (Beaten cs xs (length xs) h s r → ⊥)
       → Pointed cs xs live h s k links → Pointed cs xs live h s (k + 1) links'
-  pointed_yes k r links links' number size low at more w there best d = (
-    size,
-    λ p f l. (
-      λ m. elim (or_cases (eqb (256 * p + f) number) (marked links (256 * p + f)) (sym (more (256 * p + f)) ∙ m)) [
-        | inl e ↦ (
-            let here : 256 * p + f ≡ number = eqb-true (256 * p + f) number e in
-            let same-p : r.role ≡ p = omega arith in
-            let same-f : live_before live r.context ≡ f = omega arith in
-            record {
-              to = r.context;
-              wanted = wants_last xs k h s (record { role = p; context = r.context }) (subst (λ q. Wishes h s (record { role = q; context = r.context }) (clause_at xs k)) same-p w);
-              best = subst (λ q. Beaten cs xs (length xs) h s (record { role = q; context = r.context }) → ⊥) same-p best;
-              there = there;
-              number = same-f;
-            })
-        | inr o ↦ points_upto k p f ((d.1 p f l).0 o)
-      ],
-      λ x. more (256 * p + f) ∙ elim (points_cases k p f x) [
-        | inl y ↦ or_right (eqb (256 * p + f) number) (marked links (256 * p + f)) ((d.1 p f l).1 y)
-        | inr y ↦ (
-            let one = wishes_one h s (record { role = p; context = y.0 }) r (clause_at xs k) y.1 w in
-            let same-p : p ≡ r.role = ap (λ (q : RolePart). q.role) one in
-            let same-t : live_before live y.0 ≡ live_before live r.context = ap (λ (q : RolePart). live_before live q.context) one in
-            or_left (eqb (256 * p + f) number) (marked links (256 * p + f)) (eq-eqb (256 * p + f) number (omega (arith, y.4))))
-      ],
-    ),
+  pointed_yes k r links links' number low at more w there best d p f l = (
+    λ m. elim (or_cases (eqb (256 * p + f) number) (marked links (256 * p + f)) (sym (more (256 * p + f)) ∙ m)) [
+      | inl e ↦ (
+          let here : 256 * p + f ≡ number = eqb-true (256 * p + f) number e in
+          let same-p : r.role ≡ p = omega arith in
+          let same-f : live_before live r.context ≡ f = omega arith in
+          record {
+            to = r.context;
+            wanted = wants_last xs k h s (record { role = p; context = r.context }) (subst (λ q. Wishes h s (record { role = q; context = r.context }) (clause_at xs k)) same-p w);
+            best = subst (λ q. Beaten cs xs (length xs) h s (record { role = q; context = r.context }) → ⊥) same-p best;
+            there = there;
+            number = same-f;
+          })
+      | inr o ↦ points_upto k p f ((d p f l).0 o)
+    ],
+    λ x. more (256 * p + f) ∙ elim (points_cases k p f x) [
+      | inl y ↦ or_right (eqb (256 * p + f) number) (marked links (256 * p + f)) ((d p f l).1 y)
+      | inr y ↦ (
+          let one = wishes_one h s (record { role = p; context = y.0 }) r (clause_at xs k) y.1 w in
+          let same-p : p ≡ r.role = ap (λ (q : RolePart). q.role) one in
+          let same-t : live_before live y.0 ≡ live_before live r.context = ap (λ (q : RolePart). live_before live q.context) one in
+          or_left (eqb (256 * p + f) number) (marked links (256 * p + f)) (eq-eqb (256 * p + f) number (omega (arith, y.4))))
+    ],
   )
 
 -- ---- words of links by the roles that reach one
@@ -193,33 +174,25 @@ module _ (reach links : List ℕ) (role block : ℕ) where
 
 -- ---- a row, word after word
 
--- the first word is c, and the k words after it have the links of each role in turn
-abbrev pub Filled : List ℕ → List ℕ → ℕ → ℕ → List ℕ → Type 0
-Filled reach links c k row = (get_or row 0 0 ≡ c) × ((j : ℕ) → j < k → Gathered reach links (j / 4) (j % 4) 16 (get_or row (1 + j) 0))
-
-pub filled_more : (reach links : List ℕ) (c k w : ℕ) (row : List ℕ) → 1 + k < length row → Gathered reach links (k / 4) (k % 4) 16 w → Filled reach links c k row → Filled reach links c (k + 1) (set row (1 + k) w)
-filled_more reach links c k w row l g f = (
-  get_or-set_other row (1 + k) 0 w 0 (omega arith) ∙ f.0,
-  below_more (λ j. Gathered reach links (j / 4) (j % 4) 16 (get_or (set row (1 + k) w) (1 + j) 0)) k
-      (λ j lj. subst (Gathered reach links (j / 4) (j % 4) 16) (sym (get_or-set_other row (1 + k) (1 + j) w 0 (omega arith))) (f.1 j lj))
-      (subst (Gathered reach links (k / 4) (k % 4) 16) (sym (get_or-set_same row (1 + k) w 0 l)) g),
-)
+-- the first k words have the links of each role in turn
+abbrev pub Filled : List ℕ → List ℕ → ℕ → List ℕ → Type 0
+Filled reach links k words = (j : ℕ) → j < k → Gathered reach links (j / 4) (j % 4) 16 (get_or words j 0)
 
 -- a row that is filled is the row of its slot
-pub filled_row : (cs : List ContextRecord) (xs : List ClauseRecord) (live : List Bool) (reach links : List ℕ) (roles h s k : ℕ) (row : List ℕ) → 4 * roles ≤ k
+pub filled_row : (cs : List ContextRecord) (xs : List ClauseRecord) (live : List Bool) (reach links : List ℕ) (roles h s k : ℕ) (row words : List ℕ) → 4 * roles ≤ k
     → ((a : ℕ) → Has s a ↔ Produces xs h s a) → ((p f : ℕ) → f < 256 → marked links (256 * p + f) ≡ true ↔ Points cs xs live (length xs) h s p f)
-    → Filled reach links s k row → Row cs xs live reach roles h (λ j. get_or row j 0)
-filled_row cs xs live reach links roles h s k row l produced marks f = record {
-  classes = λ a. subst (λ t. Has t a ↔ Produces xs h t a) (sym f.0) (produced a);
+    → get_or row 0 0 ≡ s → ((j : ℕ) → j < k → get_or row (1 + j) 0 ≡ get_or words j 0) → Filled reach links k words → Row cs xs live reach roles h (λ j. get_or row j 0)
+filled_row cs xs live reach links roles h s k row words l produced marks first rest f = record {
+  classes = λ a. subst (λ t. Has t a ↔ Produces xs h t a) (sym first) (produced a);
   links = λ q n lq ln.
       let role : (4 * q + n / 64) / 4 ≡ q = omega arith in
       let block : (4 * q + n / 64) % 4 ≡ n / 64 = omega arith in
-      let g = f.1 (4 * q + n / 64) (omega arith) (n % 64) in (
+      let g = told (4 * q + n / 64) (omega arith) (n % 64) in (
         λ m. let x = g.0 m in (
           x.0,
           x.1,
           subst (Has (get_or reach x.0 0)) role x.2,
-          subst (λ t. Points cs xs live (length xs) h t x.0 n) (sym f.0)
+          subst (λ t. Points cs xs live (length xs) h t x.0 n) (sym first)
               ((marks x.0 n ln).0 (same_bit x.0 n ∙ subst (λ b. Has (get_or links (4 * x.0 + b) 0) (n % 64)) block x.3)),
         ),
         λ x. g.1 (
@@ -227,11 +200,14 @@ filled_row cs xs live reach links roles h s k row l produced marks f = record {
           x.1,
           subst (Has (get_or reach x.0 0)) (sym role) x.2,
           subst (λ b. Has (get_or links (4 * x.0 + b) 0) (n % 64)) (sym block)
-              (sym (same_bit x.0 n) ∙ (marks x.0 n ln).1 (subst (λ t. Points cs xs live (length xs) h t x.0 n) f.0 x.3)),
+              (sym (same_bit x.0 n) ∙ (marks x.0 n ln).1 (subst (λ t. Points cs xs live (length xs) h t x.0 n) first x.3)),
         ),
       );
 }
   where
+    told : (j : ℕ) → j < k → Gathered reach links (j / 4) (j % 4) 16 (get_or row (1 + j) 0)
+    told j lj = subst (Gathered reach links (j / 4) (j % 4) 16) (sym (rest j lj)) (f j lj)
+
     -- the mark of a number is the bit of its word
     same_bit : (p n : ℕ) → marked links (256 * p + n) ≡ has (get_or links (4 * p + n / 64) 0) (n % 64)
     same_bit p n =

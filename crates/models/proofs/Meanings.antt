@@ -124,8 +124,8 @@ module _ (cs : List ContextRecord) (xs : List ClauseRecord) (n r : ℕ) (o : Ord
     produces_meant s a p =
         let y = p.yields.heads in (
           (clause_at xs p.by).classes.bits,
-          is_meant p.by p.below _ (λ i. record { of = context_in cs (y.its i); classes = (clause_at xs p.by).classes.bits; part = part_of cs (y.is_plain i) }),
-          y.head,
+          is_meant p.by p.below _ (λ i. record { of = context_in cs (y.its i); classes = (clause_at xs p.by).classes.bits; part = part_of cs (y.tops.lonely i) }),
+          y.tops.highest,
           p.yields.apart,
         )
 
@@ -139,8 +139,10 @@ module _ (cs : List ContextRecord) (xs : List ClauseRecord) (n r : ℕ) (o : Ord
           yields = record {
             heads = record {
               its = its_slot k.0 k.1 (ap (λ (x : Clause). x.of) k.2);
-              is_plain = plain_only cs (clause_at xs k.0).part (ap (λ (x : Clause). x.part) k.2);
-              head = subst (λ D. Has D a × ((b : ℕ) → Has D b → b ≤ a)) (sym e) p.2;
+              tops = record {
+                lonely = plain_only cs (clause_at xs k.0).part (ap (λ (x : Clause). x.part) k.2);
+                highest = subst (λ D. Has D a × ((b : ℕ) → Has D b → b ≤ a)) (sym e) p.2;
+              };
             };
             apart = subst (λ D. Apart (without D a) (has s)) (sym e) p.3;
           };
@@ -186,12 +188,16 @@ module _ (cs : List ContextRecord) (xs : List ClauseRecord) (n r : ℕ) (o : Ord
             elim (cases_eq u.0 t) [
               | inl q ↦ subst (λ (M : Context). Extended M (context_in cs t)) (ap (context_in cs) (sym q) ∙ u.2) (extended_refl (context_in cs t))
               | inr d ↦ absurd (best (record {
-                better = record { role = p; context = u.0 };
-                wanted = u.1;
-                beats = record {
-                  same_role = refl;
-                  differs = d;
-                  above = subst (Extended (context_in cs t)) (sym u.2) e;
+                by = u.1.by;
+                below = u.1.below;
+                outdone = record {
+                  better = record { role = p; context = u.0 };
+                  wishes = u.1.wishes;
+                  beats = record {
+                    same_role = refl;
+                    differs = d;
+                    above = subst (Extended (context_in cs t)) (sym u.2) e;
+                  };
                 };
               }))
             ]
@@ -205,8 +211,10 @@ module _ (cs : List ContextRecord) (xs : List ClauseRecord) (n r : ℕ) (o : Ord
 
     pub maximal_best : (s p t : ℕ) → t < n → Maximal meant (context_in cs h) (has s) p (context_in cs t) → Beaten cs xs (length xs) h s (record { role = p; context = t }) → ⊥
     maximal_best s p t l m b =
-        let N = context_in cs b.better.context in
+        let y = b.outdone in
+        let N = context_in cs y.better.context in
+        let wants : Wants xs (length xs) h s y.better = record { by = b.by; below = b.below; wishes = y.wishes } in
         let wanted : Wanted meant (context_in cs h) (has s) p N =
-        subst (λ (q : ℕ). Wanted meant (context_in cs h) (has s) q N) b.beats.same_role (wants_meant s b.better b.wanted) in
-        b.beats.differs (o.once b.better.context t (wants_below s b.better b.wanted) l
-        (extended_both N (context_in cs t) (m.1 N wanted b.beats.above) b.beats.above))
+        subst (λ (q : ℕ). Wanted meant (context_in cs h) (has s) q N) y.beats.same_role (wants_meant s y.better wants) in
+        y.beats.differs (o.once y.better.context t (wants_below s y.better wants) l
+        (extended_both N (context_in cs t) (m.1 N wanted y.beats.above) y.beats.above))

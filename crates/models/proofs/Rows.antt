@@ -14,10 +14,10 @@ use Rattle.models.proofs.Counting.{live_yes, live_no, live_le, live_lt}
 -- ---- a part of a list, written over
 
 module _ {X : Type 0} (a k : ℕ) (xs ys : List X) (d : X) where
-  part_before : (j : ℕ) → j < a → a ≤ length xs → get_or (put_mid a k xs ys) j d ≡ get_or xs j d
+  pub part_before : (j : ℕ) → j < a → a ≤ length xs → get_or (put_mid a k xs ys) j d ≡ get_or xs j d
   part_before j l h = search (rules, places)
 
-  part_at : (j : ℕ) → j < length ys → a ≤ length xs → get_or (put_mid a k xs ys) (a + j) d ≡ get_or ys j d
+  pub part_at : (j : ℕ) → j < length ys → a ≤ length xs → get_or (put_mid a k xs ys) (a + j) d ≡ get_or ys j d
   part_at j l h = search (rules, places)
 
   part_after : (j : ℕ) → length ys ≡ k → a + k ≤ j → a ≤ length xs → get_or (put_mid a k xs ys) j d ≡ get_or xs j d
@@ -97,10 +97,10 @@ module _ (cs : List ContextRecord) (xs : List ClauseRecord) (live : List Bool) (
   )
 
 -- there is room for the row of one live slot more
-pub row_room : (live : List Bool) (size slot used r roles room : ℕ) → r ≡ roles → size ≡ live_before live slot → slot < used → used * row_width roles ≤ room
-    → size * (1 + 4 * r) + (1 + 4 * r) ≤ room
-row_room live size slot used r roles room e s l h =
+pub row_room : (live : List Bool) (size slot used width roles room : ℕ) → width ≡ row_width roles → size ≡ live_before live slot → slot < used → used * row_width roles ≤ room
+    → size * width + width ≤ room
+row_room live size slot used width roles room e s l h =
     let low : size < used = omega (arith, live_le live slot) in
-    let fits : size * (1 + 4 * r) + (1 + 4 * r) ≤ used * (1 + 4 * r) = row_end size used (1 + 4 * r) low in
-    let same : used * (1 + 4 * r) ≡ used * row_width roles = ap (λ (n : ℕ). used * (1 + 4 * n)) e in
+    let fits : size * width + width ≤ used * width = row_end size used width low in
+    let same : used * width ≡ used * row_width roles = ap (λ (n : ℕ). used * n) e in
     omega arith

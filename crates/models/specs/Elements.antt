@@ -1,10 +1,11 @@
 -- Which contexts have an element, its number, and the classes that it is in, told of records and slots.
-use Rattle.std.specs.Prelude.{◌≡◌, ℕ, zero, suc, ◌+◌, ◌<◌, ◌≤◌, Bool, true, false, cond, ◌⊎◌, ◌↔◌, List, length, None, slice_index, slice_index_or}
-use Rattle.terms.specs.Sets.{has, Has, only, join, without, Highest}
+use Rattle.std.specs.Prelude.{◌≡◌, ℕ, zero, suc, ◌+◌, ◌<◌, ◌≤◌, Bool, true, false, cond, ◌⊎◌, ◌↔◌, List, map, length, is_some, Some, None, Option, slice_index_or}
+use Rattle.terms.specs.Sets.{has, Has, only, join, without}
 use Rattle.terms.specs.Axioms.{set_of}
 use Rattle.closure.specs.Canonical.{Apart}
 use Rattle.tables.specs.declared.records.ContextRecord.{ContextRecord}
 use Rattle.tables.specs.declared.records.ClauseRecord.{ClauseRecord}
+use Rattle.tables.specs.Records.{Tops}
 use Rattle.tables.specs.Tables.{Cites}
 use Rattle.models.specs.Writing.{RoleBelow}
 
@@ -48,18 +49,20 @@ unfoldable pub live_before : List Bool → ℕ → ℕ
 live_before live zero = 0
 live_before live (suc k) = live_before live k + cond (is_live live k) 1 0
 
--- numbers has that number for each slot
-pub record Numbered (live : List Bool) (numbers : List ℕ) : Type 0 where
-  pub size : length numbers ≡ 256
-  pub right : (h : ℕ) → h < 256 → slice_index numbers h ≡ live_before live h
+-- numbers has that number for each slot whose context has an element, and none for the others
+abbrev pub live_in : List (Option ℕ) → List Bool
+live_in numbers = map is_some numbers
+
+pub record Numbered (xs : List ClauseRecord) (numbers : List (Option ℕ)) : Type 0 where
+  pub tells : Tells xs (length xs) (live_in numbers)
+  pub right : (h n : ℕ) → slice_index_or numbers h None ≡ Some n → n ≡ live_before (live_in numbers) h
 
 -- ---- classes
 
 -- the clause is one of slot h without role part, and has the head a
 pub record Heads (h a : ℕ) (x : ClauseRecord) : Type 0 where
   pub its : x.context ≡ h
-  pub is_plain : x.part ≡ None
-  pub head : Highest x.classes.bits a
+  pub tops : Tops x a
 
 -- s has the heads of the first k clauses
 abbrev pub Headed : List ClauseRecord → ℕ → ℕ → ℕ → Type 0

@@ -1,3 +1,4 @@
 pub mod Elements
 pub mod Targets
 pub mod Writing
+pub mod Props

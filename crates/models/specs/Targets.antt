@@ -26,11 +26,17 @@ pub record Beats (cs : List ContextRecord) (other r : RolePart) : Type 0 where
   pub differs : other.context ≡ r.context → ⊥
   pub above : Extended (context_in cs r.context) (context_in cs other.context)
 
--- one that the first k clauses want beats it
-pub record Beaten (cs : List ContextRecord) (xs : List ClauseRecord) (k h s : ℕ) (r : RolePart) : Type 0 where
+-- the clause is one of slot h and wants one that beats it
+pub record Outdone (cs : List ContextRecord) (h s : ℕ) (r : RolePart) (x : ClauseRecord) : Type 0 where
   pub better : RolePart
-  pub wanted : Wants xs k h s better
+  pub wishes : Wishes h s better x
   pub beats : Beats cs better r
+
+-- one of the first k clauses is such
+pub record Beaten (cs : List ContextRecord) (xs : List ClauseRecord) (k h s : ℕ) (r : RolePart) : Type 0 where
+  pub by : ℕ
+  pub below : by < k
+  pub outdone : Outdone cs h s r (clause_at xs by)
 
 -- one of the first k clauses of slot h wants a successor by p whose context is not beaten and has the element f
 pub record Points (cs : List ContextRecord) (xs : List ClauseRecord) (live : List Bool) (k h s p f : ℕ) : Type 0 where

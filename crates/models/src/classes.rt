@@ -1,20 +1,16 @@
 //! The classes of an element.
-ghost use Rattle.std.specs.Prelude.{◌≡◌, ℕ, ◌<◌, ◌↔◌, length, Some, Decides};
+ghost use Rattle.std.specs.Prelude.{◌≡◌, ℕ, ◌<◌, ◌↔◌, length, Decides};
 ghost use Rattle.terms.specs.Sets.{Has};
-ghost use Rattle.models.specs.Elements.{Heads, Headed, Yields, Produces, Turns};
+ghost use Rattle.models.specs.Elements.{Headed, Yields, Produces, Turns};
 
 use tables::ClauseRecord;
 use terms::ClassSet;
 
-/// The head of a clause of the slot, where the clause has no role part.
-fn head_of(clause: &ClauseRecord, slot: u16) -> Option<u8>
-    ensures head { (a : ℕ) → result ≡ Some a ↔ Heads slot a clause.now }
-    ensures low { (a : ℕ) → result ≡ Some a → a < 64 }
-{
-    if clause.context != slot || clause.part.is_some() {
-        return None;
-    }
-    clause.classes.highest()
+/// The element of a slot, with the classes that it is in, as far as they are decided.
+#[derive(Clone, Copy)]
+pub(crate) struct Element {
+    pub slot: u16,
+    pub classes: ClassSet,
 }
 
 /// All heads of the clauses of the slot.
@@ -23,64 +19,62 @@ fn heads(clauses: &[ClauseRecord], slot: u16) -> ClassSet
 {
     let mut all = ClassSet::empty();
     for clause in clauses {
-        if let Some(head) = head_of(clause, slot) {
-            all = all.with(head);
+        if clause.context == slot {
+            if let Some(head) = clause.head() {
+                all = all.with(head);
+            }
         }
     }
     all
 }
 
-/// Whether the clause is one of the slot with the class as head, and has no other class of those seen.
-fn yields(clause: &ClauseRecord, slot: u16, class: u8, seen: ClassSet) -> bool
-    requires { class < 64 }
-    ensures { Decides result (Yields slot seen.bits class clause.now) }
-{
-    match head_of(clause, slot) {
-        Some(head) => head == class && !clause.classes.without(class).meets(seen),
-        None => false,
+impl Element {
+    /// The element of the slot, its classes decided by rising class: each that a clause yields by those decided so far.
+    pub fn of(clauses: &[ClauseRecord], slot: u16) -> Element
+        ensures slot { result.slot ≡ slot }
+        ensures classes { (a : ℕ) → Has result.classes.bits a ↔ Produces clauses.now slot result.classes.bits a }
+    {
+        let heads = heads(clauses, slot);
+        let mut element = Element {
+            slot,
+            classes: ClassSet::empty(),
+        };
+        for class in 0..ClassSet::MOST {
+            element = element.decide(clauses, heads, class);
+        }
+        element
     }
-}
 
-/// Whether some clause does.
-fn is_produced(clauses: &[ClauseRecord], slot: u16, class: u8, seen: ClassSet) -> bool
-    requires { class < 64 }
-    ensures { Decides result (Produces clauses.now slot seen.bits class) }
-{
-    for clause in clauses {
-        if yields(clause, slot, class, seen) {
-            return true;
+    /// The element, and in the class too where a clause yields it; a class that is no head need not be looked for.
+    fn decide(self, clauses: &[ClauseRecord], heads: ClassSet, class: u8) -> Element
+        requires low { class < 64 }
+        requires heads { Headed clauses.now self.slot (length clauses.now) heads.bits }
+        ensures slot { result.slot ≡ self.slot }
+        ensures turns { Turns clauses.now self.slot self.classes.bits class result.classes.bits }
+    {
+        if heads.contains(class) && self.is_given(clauses, class) {
+            Element {
+                slot: self.slot,
+                classes: self.classes.with(class),
+            }
+        } else {
+            self
         }
     }
-    false
-}
 
-/// Those seen, and the class where a clause produces it; a class that is no head need not be looked for.
-fn decide(
-    clauses: &[ClauseRecord],
-    slot: u16,
-    heads: ClassSet,
-    class: u8,
-    seen: ClassSet,
-) -> ClassSet
-    requires low { class < 64 }
-    requires heads { Headed clauses.now slot (length clauses.now) heads.bits }
-    ensures { Turns clauses.now slot seen.bits class result.bits }
-{
-    if heads.contains(class) && is_produced(clauses, slot, class, seen) {
-        seen.with(class)
-    } else {
-        seen
+    /// Whether some clause yields the class.
+    fn is_given(self, clauses: &[ClauseRecord], class: u8) -> bool
+        ensures { Decides result (Produces clauses.now self.slot self.classes.bits class) }
+    {
+        clauses.iter().any(|clause| self.yields(clause, class))
     }
-}
 
-/// The classes of the element of the slot, decided by rising class: each that a clause produces by those decided so far.
-pub(crate) fn classes_of(clauses: &[ClauseRecord], slot: u16) -> ClassSet
-    ensures { (a : ℕ) → Has result.bits a ↔ Produces clauses.now slot result.bits a }
-{
-    let heads = heads(clauses, slot);
-    let mut seen = ClassSet::empty();
-    for class in 0..ClassSet::MOST {
-        seen = decide(clauses, slot, heads, class, seen);
+    /// Whether the clause is one of the slot with the class as head, and the element is in no other class of it.
+    fn yields(self, clause: &ClauseRecord, class: u8) -> bool
+        ensures { Decides result (Yields self.slot self.classes.bits class clause.now) }
+    {
+        clause.context == self.slot
+            && clause.head() == Some(class)
+            && !clause.classes.without(class).meets(self.classes)
     }
-    seen
 }

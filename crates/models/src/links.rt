@@ -1,110 +1,97 @@
 //! The links of an element.
-ghost use Rattle.std.specs.Prelude.{◌≡◌, ℕ, ◌+◌, ◌*◌, ◌<◌, true, ◌||◌, ◌↔◌, length, Some, Decides, ◌==◌, slice_index};
+ghost use Rattle.std.specs.Prelude.{◌≡◌, ℕ, ◌+◌, ◌*◌, ◌<◌, true, ◌↔◌, length, Some, Decides, slice_index};
 ghost use Rattle.terms.specs.Sets.{Has};
 ghost use Rattle.worlds.specs.Entries.{marked};
-ghost use Rattle.models.specs.Elements.{Safe, Numbered};
-ghost use Rattle.models.specs.Targets.{Wishes, Beats, Beaten, Points};
+ghost use Rattle.models.specs.Elements.{live_in};
+ghost use Rattle.models.specs.Targets.{Wishes, Beats, Outdone, Beaten, Points};
+ghost use Rattle.tables.specs.Tables.{PartCites};
 
+use crate::classes::Element;
+use crate::elements::Elements;
 use roles::Reach;
-use tables::{ClauseRecord, ContextRecord, RolePart};
+use tables::{ClauseRecord, RolePart};
 use terms::ClassSet;
+use worlds::Marks;
 
-/// The role part of a clause of the slot, where the element is in no class of the clause.
-fn wish(clause: &ClauseRecord, slot: u16, seen: ClassSet) -> Option<RolePart>
-    ensures { (part : RolePart) → result ≡ Some part ↔ Wishes slot seen.bits part clause.now }
-{
-    if clause.context == slot && !clause.classes.meets(seen) {
-        clause.part
-    } else {
-        None
-    }
-}
-
-/// Whether the other role part has the same role, and another context that holds and denies all that this one's does.
-fn beats(contexts: &[ContextRecord], other: RolePart, part: RolePart) -> bool
-    requires { (other.context < length contexts.now) × (part.context < length contexts.now) }
-    ensures { Decides result (Beats contexts.now other part) }
-{
-    if other.role != part.role || other.context == part.context {
-        return false;
-    }
-    let low = contexts[usize::from(part.context)];
-    let high = contexts[usize::from(other.context)];
-    low.held.is_subset(high.held) && low.denied.is_subset(high.denied)
-}
-
-/// Whether one that the clauses of the slot want beats it.
-fn is_beaten(
-    contexts: &[ContextRecord],
-    clauses: &[ClauseRecord],
-    slot: u16,
-    seen: ClassSet,
-    part: RolePart,
-) -> bool
-    requires safe { Safe contexts.now clauses.now }
-    requires below { part.context < length contexts.now }
-    ensures { Decides result (Beaten contexts.now clauses.now (length clauses.now) slot seen.bits part) }
-{
-    for clause in clauses {
-        if let Some(other) = wish(clause, slot, seen) {
-            if beats(contexts, other, part) {
-                return true;
-            }
+impl Element {
+    /// The role part of a clause of the slot, where the element is in no class of the clause.
+    fn wish(self, clause: &ClauseRecord) -> Option<RolePart>
+        ensures { (part : RolePart) → result ≡ Some part ↔ Wishes self.slot self.classes.bits part clause.now }
+    {
+        if clause.context == self.slot && !clause.classes.meets(self.classes) {
+            clause.part
+        } else {
+            None
         }
     }
-    false
 }
 
-/// Marks a number, a bit each.
-fn mark(words: &mut [u64], number: usize)
-    requires { (length words.old ≡ 64) × (number < 4096) }
-    ensures { (j : ℕ) → marked words.new j ≡ (j == number || marked words.old j) }
-{
-    let at = number / 64;
-    let word = ClassSet::from_bits(words[at]);
-    words[at] = word.with((number % 64) as u8).bits();
-}
+// That a role part cites a context is asked at each call: a type that keeps it would have to hold the contexts too.
+impl<'a, 'b> Elements<'a, 'b> {
+    /// Whether the other role part has the same role, and another context that holds and denies all that this one's does.
+    fn beats(&self, other: RolePart, part: RolePart) -> bool
+        requires { (other.context < length self.now.contexts.now) × (part.context < length self.now.contexts.now) }
+        ensures { Decides result (Beats self.now.contexts.now other part) }
+    {
+        if other.role != part.role || other.context == part.context {
+            return false;
+        }
+        let low = self.contexts[usize::from(part.context)];
+        let high = self.contexts[usize::from(other.context)];
+        low.held.is_subset(high.held) && low.denied.is_subset(high.denied)
+    }
 
-/// The links that the clauses of the slot want: for each role a mark at each element that it links to, 256 numbers a role.
-pub(crate) fn wanted_links(
-    contexts: &[ContextRecord],
-    clauses: &[ClauseRecord],
-    live: &[bool],
-    numbers: &[u16],
-    slot: u16,
-    seen: ClassSet,
-) -> [u64; 64]
-    requires safe { Safe contexts.now clauses.now }
-    requires live { length live.now ≡ 256 }
-    requires numbers { Numbered live.now numbers.now }
-    ensures size { length result ≡ 64 }
-    ensures marks { (p f : ℕ) → f < 256 → marked result (256 * p + f) ≡ true
-        ↔ Points contexts.now clauses.now live.now (length clauses.now) slot seen.bits p f }
-{
-    let mut links = [0; 64];
-    for clause in clauses {
-        if let Some(part) = wish(clause, slot, seen) {
-            let target = usize::from(part.context);
-            if live[target] && !is_beaten(contexts, clauses, slot, seen, part) {
-                mark(
-                    &mut links,
-                    256 * usize::from(part.role) + usize::from(numbers[target]),
-                );
-            }
+    /// Whether the clause is one of the element's slot and wants a role part that beats this one.
+    fn is_outdone(&self, element: Element, part: RolePart, clause: &ClauseRecord) -> bool
+        requires below { part.context < length self.now.contexts.now }
+        requires cited { PartCites (length self.now.contexts.now) clause.now.part }
+        ensures { Decides result (Outdone self.now.contexts.now element.slot element.classes.bits part clause.now) }
+    {
+        // A match: a closure for `is_some_and` would need clauses of its own.
+        match element.wish(clause) {
+            Some(other) => self.beats(other, part),
+            None => false,
         }
     }
-    links
+
+    /// Whether some clause of the element's slot wants a role part that beats this one.
+    fn is_beaten(&self, element: Element, part: RolePart) -> bool
+        requires { part.context < length self.now.contexts.now }
+        ensures { Decides result (Beaten self.now.contexts.now self.now.clauses.now (length self.now.clauses.now) element.slot element.classes.bits part) }
+    {
+        self.clauses
+            .iter()
+            .any(|clause| self.is_outdone(element, part, clause))
+    }
+
+    /// The links that the clauses of the element's slot want: for each role a mark at each element that it links to, 256 numbers a role.
+    pub(crate) fn wanted_links(&self, element: Element) -> Marks<64>
+        ensures { (p f : ℕ) → f < 256 → marked result.words (256 * p + f) ≡ true
+            ↔ Points self.now.contexts.now self.now.clauses.now (live_in self.now.numbers) (length self.now.clauses.now) element.slot element.classes.bits p f }
+    {
+        let mut links = Marks::new();
+        for clause in self.clauses {
+            if let Some(part) = element.wish(clause) {
+                if let Some(number) = self.number(part.context) {
+                    if !self.is_beaten(element, part) {
+                        links.set(256 * usize::from(part.role) + usize::from(number));
+                    }
+                }
+            }
+        }
+        links
+    }
 }
 
 /// One word of links by a role, to 64 elements: those by each role that reaches it.
-pub(crate) fn link_word(links: &[u64], reach: &Reach, role: u8, block: usize) -> u64
-    requires { (length links.now ≡ 64) × (block < 4) }
-    ensures { (b : ℕ) → Has result b ↔ ((p : ℕ) × (p < 16) × Has (slice_index reach.now.rows p) role × Has (slice_index links.now (4 * p + block)) b) }
+pub(crate) fn link_word(links: &Marks<64>, reach: &Reach, role: u8, block: usize) -> u64
+    requires { block < 4 }
+    ensures { (b : ℕ) → Has result b ↔ ((p : ℕ) × (p < 16) × Has (slice_index reach.now.rows p) role × Has (slice_index links.now.words (4 * p + block)) b) }
 {
     let mut word = ClassSet::empty();
     for from in 0..16u8 {
         if reach.reaches(from, role) {
-            word = word.union(ClassSet::from_bits(links[4 * usize::from(from) + block]));
+            word = word.union(ClassSet::from_bits(links.word(4 * usize::from(from) + block)));
         }
     }
     word.bits()

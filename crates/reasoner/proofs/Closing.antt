@@ -1,6 +1,6 @@
 -- Tables that were filled with the closure, or got full: what an ask may tell of them.
-use Rattle.std.proofs.Common.{◌≡◌, ℕ, zero, ◌<◌, ◌≤◌, ◌⊎◌, List, length, get_or, take, Option, sym, refl, ap, ◌∙◌, subst, ⊎_elim, arith}
-use Rattle.std.proofs.lemmas.List.{ext_get_or, get_or-take, length-take-le}
+use Rattle.std.proofs.Common.{◌≡◌, ℕ, zero, ◌<◌, ◌≤◌, ◌⊎◌, ◌↔◌, List, ◌++◌, length, get_or, take, Ok, Result, Option, IfOk, sym, refl, ap, ◌∙◌, subst, ⊎_elim, arith}
+use Rattle.std.proofs.lemmas.List.{ext_get_or, get_or-take, length-take-le, take_at}
 use Rattle.terms.specs.Axioms.{blank}
 use Rattle.terms.specs.declared.class_set.ClassSet.{ClassSet}
 use Rattle.terms.specs.declared.axioms.Axiom.{Axiom}
@@ -10,28 +10,41 @@ use Rattle.closure.specs.Verdicts.{Tabled}
 use Rattle.closure.proofs.Judgement.{verdict_right}
 use Rattle.tables.specs.Entering.{Among}
 use Rattle.tables.specs.Tables.{Tables, tables, Member, a_context, a_clause, context_in, InClosure, In, contexts_of, clauses_of}
-use Rattle.tables.specs.Adding.{Adds, Stuck}
+use Rattle.tables.specs.Adding.{Adds, Stuck, Enters}
 use Rattle.tables.specs.declared.records.ContextRecord.{ContextRecord}
 use Rattle.tables.specs.declared.records.ClauseRecord.{ClauseRecord}
 use Rattle.tables.specs.declared.members.Counts.{Counts}
+use Rattle.tables.specs.declared.entering.Full.{Full}
 use Rattle.tables.proofs.Meanings.{context_in_one}
 use Rattle.tables.proofs.Additions.{none_in}
 use Rattle.tables.proofs.Counting.{contexts_listed, clauses_listed, contexts_distinct, clauses_distinct, counts_right, full_right, fits_right}
-use Rattle.saturation.specs.Choices.{lone}
+use Rattle.tables.specs.Records.{lone}
 use Rattle.saturation.proofs.Tops.{plain_none}
 use Rattle.reasoner.specs.Asks.{goal_of, FitsInto, Right, unused, Filled, Begun}
 use Rattle.reasoner.specs.declared.answer.Answer.TheVariants.{Nothing, Something}
 
--- a list whose leading slots hold another
-pub loaded : (xs ys : List Axiom) (n : ℕ) → n ≡ length ys → n ≤ length xs → ((j : ℕ) → j < n → get_or xs j blank ≡ get_or ys j blank) → take n xs ≡ ys
-loaded xs ys n e l h = ext_get_or blank (take n xs) ys (length-take-le n xs l ∙ e) (λ k b. get_or-take n xs k blank (omega (arith, length-take-le n xs l)) ∙ h k (omega (arith, length-take-le n xs l)))
+-- slots, the leading ones of which hold a list
+pub loaded : (xs later ys : List Axiom) (n : ℕ) → n ≡ length ys → length xs ≡ n → ((j : ℕ) → j < n → get_or xs j blank ≡ get_or ys j blank) → take n (xs ++ later) ≡ ys
+loaded xs later ys n e size h = take_at xs later n size ∙ ext_get_or blank xs ys (size ∙ e) (λ k b. h k (omega (arith, size)))
+
+-- one of the leading slots holds a record exactly where the list of them has it
+pub among_taken : {X : Type 0} (xs : List X) (n : ℕ) (x : X) → n ≤ length xs → Among (take n xs) (length (take n xs)) x ↔ Among xs n x
+among_taken xs n x l =
+    let size = length-take-le n xs l in (
+      λ a. let low : a.slot < n = omega (arith, a.below, size) in record { slot = a.slot; below = low; holds = record { is = λ d. sym (get_or-take n xs a.slot d low) ∙ a.holds.is d } },
+      λ a. record { slot = a.slot; below = omega (arith, a.below, size); holds = record { is = λ d. get_or-take n xs a.slot d a.below ∙ a.holds.is d } },
+    )
 
 -- nothing was there at first
 start : (axs : List Axiom) (G : Context) (xs : List ContextRecord) (ys : List ClauseRecord) (m : Member) → In (tables xs ys unused) m → InClosure rising axs G m
-start axs G xs ys m a = absurd (none_in xs ys m a)
+start axs G xs ys m a = absurd (none_in (tables xs ys unused) refl refl m a)
 
 members : {C : Member → Type 0} (xs : List ContextRecord) (ys : List ClauseRecord) {u : Tables} → ((m : Member) → In u m → In (tables xs ys unused) m ⊎ C m) → (m : Member) → In u m → C m
-members xs ys only m a = ⊎_elim (λ b. absurd (none_in xs ys m b)) (λ c. c) (only m a)
+members xs ys only m a = ⊎_elim (λ b. absurd (none_in (tables xs ys unused) refl refl m b)) (λ c. c) (only m a)
+
+-- what saturating tells of the first slot, where it tells counts
+pub starts : (G : Context) (us : List ContextRecord) {n : Counts} {r : Result Counts Full} → r ≡ Ok n → IfOk r (λ (k : Counts). (0 < k.contexts) × (context_in us 0 ≡ G)) → (0 < n.contexts) × (context_in us 0 ≡ G)
+starts G us is h = subst (λ (r : Result Counts Full). IfOk r (λ (k : Counts). (0 < k.contexts) × (context_in us 0 ≡ G))) is h
 
 module _ {axs : List Axiom} {G : Context} {xs us : List ContextRecord} {ys vs : List ClauseRecord} {n : Counts} where
   -- ---- full
@@ -48,6 +61,10 @@ module _ {axs : List Axiom} {G : Context} {xs us : List ContextRecord} {ys vs : 
       contexts_once = contexts_distinct p.grows.good;
       clauses_once = clauses_distinct p.grows.good;
     }
+
+  -- what it tells of the tables then
+  pub saturated : {r : Result Counts Full} → r ≡ Ok n → Enters (InClosure rising axs G) (tables xs ys unused) (tables us vs) r → Adds (InClosure rising axs G) (tables xs ys unused) (tables us vs n)
+  saturated is h = subst (λ (r : Result Counts Full). Enters (InClosure rising axs G) (tables xs ys unused) (tables us vs) r) is h
 
   -- ---- filled
 

@@ -1,3 +1,4 @@
+pub mod Results
 pub mod Closing
 pub mod Admitting
 pub mod Showing

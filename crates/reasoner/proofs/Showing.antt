@@ -1,5 +1,5 @@
 -- The world that filled tables show.
-use Rattle.std.proofs.Common.{◌≡◌, ℕ, zero, ◌*◌, ◌≤◌, List, length, Some, None, Option, sym, refl, ◌∙◌, subst, mul-le-mul_right, arith}
+use Rattle.std.proofs.Common.{◌≡◌, ℕ, zero, ◌≤◌, List, length, Some, None, Option, sym, refl, ◌∙◌, subst, arith}
 use Rattle.std.specs.List.{AllByRecursion}
 use Rattle.terms.specs.Sets.{Below}
 use Rattle.terms.specs.Axioms.{WellFormed}
@@ -25,7 +25,7 @@ use Rattle.roles.proofs.Rows.{formed_included}
 use Rattle.models.specs.Writing.{RoleBelow, Ready, Written}
 use Rattle.reasoner.specs.Asks.{goal_of, Right, unused, Filled, TablesAfter, Shown}
 use Rattle.reasoner.specs.declared.answer.Answer.{Answer}
-use Rattle.reasoner.specs.declared.answer.Answer.TheVariants.{Nothing, Something}
+use Rattle.reasoner.specs.declared.answer.Answer.TheVariants.{Something}
 
 module _ {axs : List Axiom} {P N : ClassSet} {s u : Tables} (f : Filled axs (goal_of P N) s u) where
   -- the tables are such that a model can be written
@@ -74,9 +74,6 @@ shown_of m {roles} {n} {axs} {P} {N} {counts} {before} {after} r a h =
 pub formed_of : (m : Meaning) {roles : ℕ} {axs : List Axiom} → m.roles ≡ roles → m.axioms ≡ axs → AllByRecursion (WellFormed m.classes m.roles) m.axioms → AllByRecursion (WellFormed m.classes roles) axs
 formed_of m {roles} {axs} r a h = subst (λ xs. AllByRecursion (WellFormed m.classes roles) xs) a (subst (λ k. AllByRecursion (WellFormed m.classes k) m.axioms) r h)
 
-pub room_of : {k n l : ℕ} (w : ℕ) → k ≤ n → n * w ≤ l → k * w ≤ l
-room_of w a b = omega (arith, mul-le-mul_right w a)
-
 -- an answer by its case
 module _ {axs : List Axiom} {P N : ClassSet} {a : Answer} {n : Counts} {e : Option ℕ} (is : a ≡ Something n e) where
   pub some_right : Right axs P N a → (k : Option ℕ) → Right axs P N (Something n k)
@@ -84,10 +81,3 @@ module _ {axs : List Axiom} {P N : ClassSet} {a : Answer} {n : Counts} {e : Opti
 
   pub some_filled : (xs us : List ContextRecord) (ys vs : List ClauseRecord) → TablesAfter axs (goal_of P N) xs ys us vs (done a) → Filled axs (goal_of P N) (tables xs ys unused) (tables us vs n)
   some_filled xs us ys vs h = subst (λ x. TablesAfter axs (goal_of P N) xs ys us vs (done x)) is h
-
-module _ {axs : List Axiom} {P N : ClassSet} {a : Answer} {n : Counts} (is : a ≡ Nothing n) where
-  pub none_right : Right axs P N a → Right axs P N (Nothing n)
-  none_right h = subst (λ x. Right axs P N x) is h
-
-  pub none_filled : (xs us : List ContextRecord) (ys vs : List ClauseRecord) → TablesAfter axs (goal_of P N) xs ys us vs (done a) → Filled axs (goal_of P N) (tables xs ys unused) (tables us vs n)
-  none_filled xs us ys vs h = subst (λ x. TablesAfter axs (goal_of P N) xs ys us vs (done x)) is h

@@ -1,24 +1,24 @@
 //! Asks on any source.
-ghost use Rattle.std.specs.Prelude.{◌≡◌, ℕ, ◌*◌, ◌<◌, ◌≤◌, length, take};
+ghost use Rattle.std.specs.Prelude.{◌≡◌, ◌*◌, ◌≤◌, length};
 ghost use Rattle.std.specs.List.{AllByRecursion};
 ghost use Rattle.terms.specs.Sets.{Below};
 ghost use Rattle.terms.specs.Axioms.{WellFormed};
 ghost use Rattle.terms.specs.Refusals.{Answers, told, check, end};
-ghost use Rattle.sources.specs.Meanings.{Meaning as MeaningOf, Limits};
-ghost use Rattle.worlds.specs.Models.{row_width};
-ghost use Rattle.roles.specs.Reaching.{Shows, Included};
+ghost use Rattle.sources.specs.Meanings.{Meaning as MeaningOf};
+ghost use Rattle.roles.specs.Reaching.{Shows};
 ghost use Rattle.reasoner.specs.Asks.{in_ask, goal_of, FitsInto, admit_checks, ask_checks, NoTable, RowEach, Right, Unshown, Numbered, TablesAfter, ModelAfter};
 
 use crate::answer::Answer;
-use crate::loading::{blank, load};
+use crate::loading::load;
 use crate::settling::is_refuted;
 use models::write_model;
 use roles::Reach;
 use saturation::saturate;
 use sources::Source;
 use sources::source::MOST_AXIOMS;
-use tables::{ClauseRecord, ContextRecord, Counts};
+use tables::{ClauseRecord, ContextRecord};
 use terms::{Axiom, ClassSet, Fault, Layer, Refusal};
+use worlds::ModelTable;
 
 /// A context table has at most this many slots.
 pub const MOST_CONTEXTS: usize = 256;
@@ -26,151 +26,57 @@ pub const MOST_CONTEXTS: usize = 256;
 /// A clause table has at most this many slots.
 pub const MOST_CLAUSES: usize = 65_535;
 
+// The two tables are lent as slices, and are filled and read in place: each call below passes them on, with the bound of their lengths in its contract.
+
 /// Fills the tables with the closure of the goal; where it does not fit, says so.
 fn fill(
     axioms: &[Axiom],
     reach: &Reach,
     contexts: &mut [ContextRecord],
     clauses: &mut [ClauseRecord],
-    held: ClassSet,
-    denied: ClassSet,
+    goal: ContextRecord,
 ) -> Result<Answer, Fault>
     requires formed { AllByRecursion (WellFormed 64 16) axioms.now }
     requires shows { Shows axioms.now reach.now.rows }
     requires few { length contexts.old ≤ 256 }
-    requires low { Below 64 held.bits × Below 64 denied.bits }
-    ensures gives { Answers (check 23 (FitsInto axioms.now (goal_of held denied) (length contexts.old) (length clauses.old)) end) 0 in_ask
-        (λ a. Right axioms.now held denied a × Unshown a) (told result) }
-    ensures after { TablesAfter axioms.now (goal_of held denied) contexts.old clauses.old contexts.new clauses.new (told result) }
+    requires low { Below 64 goal.held.bits × Below 64 goal.denied.bits }
+    ensures gives { Answers (check 23 (FitsInto axioms.now (goal_of goal.held goal.denied) (length contexts.old) (length clauses.old)) end) 0 in_ask
+        (λ a. Right axioms.now goal.held goal.denied a × Unshown a) (told result) }
+    ensures after { TablesAfter axioms.now (goal_of goal.held goal.denied) contexts.old clauses.old contexts.new clauses.new (told result) }
 {
-    match saturate(
-        axioms,
-        reach,
-        contexts,
-        clauses,
-        ContextRecord { held, denied },
-    ) {
-        Ok(counts) => {
-            if is_refuted(clauses, counts) {
-                return Ok(Answer::Nothing { counts });
-            }
-            Ok(Answer::Something {
-                counts,
-                elements: None,
-            })
-        }
-        Err(_) => Err(Refusal::ClosureFull.at(0, Layer::Ask)),
-    }
-}
-
-/// Refuses a question about classes that there are not, and tables above their most or with too few words.
-fn admit(
-    classes: u8,
-    held: ClassSet,
-    denied: ClassSet,
-    contexts: usize,
-    clauses: usize,
-    width: usize,
-    words: usize,
-) -> Result<(), Fault>
-    requires { width ≤ 65 }
-    ensures { Answers (admit_checks classes held denied contexts clauses (contexts * width ≤ words)) 0 in_ask (λ _. Unit {0}) (told result) }
-{
-    if !held.is_below(classes) || !denied.is_below(classes) {
-        return Err(Refusal::PastEnd.at(0, Layer::Ask));
-    }
-    if contexts > MOST_CONTEXTS || clauses > MOST_CLAUSES || contexts * width > words {
-        return Err(Refusal::TableSize.at(0, Layer::Ask));
-    }
-    Ok(())
-}
-
-/// The answer by the first `count` axioms.
-fn conclude(
-    axioms: &[Axiom],
-    count: usize,
-    contexts: &mut [ContextRecord],
-    clauses: &mut [ClauseRecord],
-    held: ClassSet,
-    denied: ClassSet,
-) -> Result<Answer, Fault>
-    requires loaded { count ≤ length axioms.now }
-    requires formed { AllByRecursion (WellFormed 64 16) (take count axioms.now) }
-    requires few { length contexts.old ≤ 256 }
-    requires low { Below 64 held.bits × Below 64 denied.bits }
-    ensures gives { Answers (check 23 (FitsInto (take count axioms.now) (goal_of held denied) (length contexts.old) (length clauses.old)) end) 0 in_ask
-        (λ a. Right (take count axioms.now) held denied a × Unshown a) (told result) }
-    ensures after { TablesAfter (take count axioms.now) (goal_of held denied) contexts.old clauses.old contexts.new clauses.new (told result) }
-{
-    let standing = &axioms[..count];
-    fill(
-        standing,
-        &Reach::of(standing),
-        contexts,
-        clauses,
-        held,
-        denied,
-    )
-}
-
-/// Asks whether some world that obeys the source's axioms has an element in all held and no denied classes.
-///
-/// The leading slots of the tables then hold the closure of the goal.
-pub fn ask<S: Source>(
-    source: &S,
-    held: ClassSet,
-    denied: ClassSet,
-    contexts: &mut [ContextRecord],
-    clauses: &mut [ClauseRecord],
-) -> Result<Answer, Fault>
-    requires { Limits (S.Source.meaning source.now) }
-    ensures gives { Answers (ask_checks (S.Source.meaning source.now) held denied (length contexts.old) (length clauses.old) NoTable) 0 in_ask
-        (λ a. Right (S.Source.meaning source.now).axioms held denied a × Unshown a) (told result) }
-    ensures after { TablesAfter (S.Source.meaning source.now).axioms (goal_of held denied) contexts.old clauses.old contexts.new clauses.new (told result) }
-{
-    admit(
-        source.class_count(),
-        held,
-        denied,
-        contexts.len(),
-        clauses.len(),
-        0,
-        0,
+    let counts = saturate(axioms, reach, contexts, clauses, goal).map_err(
+        |_| Refusal::ClosureFull.at(0, Layer::Ask),
     )?;
-    let mut axioms = [blank(); MOST_AXIOMS];
-    let count = load(source, &mut axioms);
-    conclude(&axioms, count, contexts, clauses, held, denied)
+    if is_refuted(&clauses[..counts.clauses]) {
+        return Ok(Answer::Nothing { counts });
+    }
+    Ok(Answer::Something {
+        counts,
+        elements: None,
+    })
 }
 
-/// The same, with a world: where the answer is some, the first rows of the model table show one.
-fn conclude_model(
+/// Fills the tables as `fill` does, and where the answer is some writes a world into the first rows of the model table.
+fn fill_with_model(
     axioms: &[Axiom],
-    count: usize,
     roles: u8,
     contexts: &mut [ContextRecord],
     clauses: &mut [ClauseRecord],
     model: &mut [u64],
-    held: ClassSet,
-    denied: ClassSet,
+    goal: ContextRecord,
 ) -> Result<Answer, Fault>
-    requires loaded { count ≤ length axioms.now }
-    requires formed { AllByRecursion (WellFormed 64 roles) (take count axioms.now) }
+    requires formed { AllByRecursion (WellFormed 64 roles) axioms.now }
     requires few { length contexts.old ≤ 256 }
-    requires low { Below 64 held.bits × Below 64 denied.bits }
+    requires low { Below 64 goal.held.bits × Below 64 goal.denied.bits }
     requires room { (roles ≤ 16) × RowEach roles (length contexts.old) (length model.old) }
-    ensures gives { Answers (check 23 (FitsInto (take count axioms.now) (goal_of held denied) (length contexts.old) (length clauses.old)) end) 0 in_ask
-        (λ a. Right (take count axioms.now) held denied a × Numbered a) (told result) }
-    ensures after { TablesAfter (take count axioms.now) (goal_of held denied) contexts.old clauses.old contexts.new clauses.new (told result) }
-    ensures shows { (m : MeaningOf) → m.roles ≡ roles → m.axioms ≡ take count axioms.now → AllByRecursion (WellFormed m.classes m.roles) m.axioms
-        → Below m.classes held.bits → Below m.classes denied.bits → ModelAfter m held denied model.old model.new (told result) }
+    ensures gives { Answers (check 23 (FitsInto axioms.now (goal_of goal.held goal.denied) (length contexts.old) (length clauses.old)) end) 0 in_ask
+        (λ a. Right axioms.now goal.held goal.denied a × Numbered a) (told result) }
+    ensures after { TablesAfter axioms.now (goal_of goal.held goal.denied) contexts.old clauses.old contexts.new clauses.new (told result) }
+    ensures shows { (m : MeaningOf) → m.roles ≡ roles → m.axioms ≡ axioms.now → AllByRecursion (WellFormed m.classes m.roles) m.axioms
+        → Below m.classes goal.held.bits → Below m.classes goal.denied.bits → ModelAfter m goal.held goal.denied model.old model.new (told result) }
 {
-    let standing = &axioms[..count];
-    let reach = Reach::of(standing);
-    let answer = match fill(standing, &reach, contexts, clauses, held, denied) {
-        Ok(answer) => answer,
-        Err(fault) => return Err(fault),
-    };
-    match answer {
+    let reach = Reach::of(axioms);
+    match fill(axioms, &reach, contexts, clauses, goal)? {
         Answer::Nothing { counts } => Ok(Answer::Nothing { counts }),
         Answer::Something { counts, .. } => {
             let elements = write_model(model, contexts, clauses, counts, &reach, roles);
@@ -182,7 +88,51 @@ fn conclude_model(
     }
 }
 
-/// Asks the same, and where the answer is some shows a world in the first rows of the model table, its element 0 such an element.
+/// Checks the question and the sizes of the two tables, and puts the source's axioms into the slots.
+// The two sizes are numbers of slots, and not of slots used as `Counts` are.
+fn admit<'a, S: Source>(
+    source: &S,
+    goal: ContextRecord,
+    contexts: usize,
+    clauses: usize,
+    slots: &'a mut [Axiom],
+) -> Result<&'a [Axiom], Fault>
+    requires { 1024 ≤ length slots.old }
+    ensures { Answers (admit_checks (S.Source.meaning source.now).classes goal.held goal.denied contexts clauses NoTable) 0 in_ask
+        (λ axioms. axioms.now ≡ (S.Source.meaning source.now).axioms) (told result) }
+{
+    let classes = source.class_count();
+    if !goal.held.is_below(classes) || !goal.denied.is_below(classes) {
+        return Err(Layer::Ask.past_end());
+    }
+    if contexts > MOST_CONTEXTS || clauses > MOST_CLAUSES {
+        return Err(Refusal::TableSize.at(0, Layer::Ask));
+    }
+    Ok(load(source, slots))
+}
+
+/// Asks whether some world that obeys the source's axioms has an element in all held and no denied classes.
+///
+/// The leading slots of the tables then hold the closure of the goal.
+// A caller has two sets of classes; that both together are the goal's record is the reasoner's own affair.
+pub fn ask<S: Source>(
+    source: &S,
+    held: ClassSet,
+    denied: ClassSet,
+    contexts: &mut [ContextRecord],
+    clauses: &mut [ClauseRecord],
+) -> Result<Answer, Fault>
+    ensures gives { Answers (ask_checks (S.Source.meaning source.now) held denied (length contexts.old) (length clauses.old) NoTable) 0 in_ask
+        (λ a. Right (S.Source.meaning source.now).axioms held denied a × Unshown a) (told result) }
+    ensures after { TablesAfter (S.Source.meaning source.now).axioms (goal_of held denied) contexts.old clauses.old contexts.new clauses.new (told result) }
+{
+    let goal = ContextRecord { held, denied };
+    let mut slots = [Axiom::default(); MOST_AXIOMS];
+    let axioms = admit(source, goal, contexts.len(), clauses.len(), &mut slots)?;
+    fill(axioms, &Reach::of(axioms), contexts, clauses, goal)
+}
+
+/// As `ask`; where the answer is some, shows a world in the first rows of the model table, its element 0 such an element.
 pub fn ask_model<S: Source>(
     source: &S,
     held: ClassSet,
@@ -191,27 +141,19 @@ pub fn ask_model<S: Source>(
     clauses: &mut [ClauseRecord],
     model: &mut [u64],
 ) -> Result<Answer, Fault>
-    requires { Limits (S.Source.meaning source.now) }
     ensures gives { Answers (ask_checks (S.Source.meaning source.now) held denied (length contexts.old) (length clauses.old)
         (RowEach (S.Source.meaning source.now).roles (length contexts.old) (length model.old))) 0 in_ask
         (λ a. Right (S.Source.meaning source.now).axioms held denied a × Numbered a) (told result) }
     ensures after { TablesAfter (S.Source.meaning source.now).axioms (goal_of held denied) contexts.old clauses.old contexts.new clauses.new (told result) }
     ensures shows { ModelAfter (S.Source.meaning source.now) held denied model.old model.new (told result) }
 {
+    let goal = ContextRecord { held, denied };
     let roles = source.role_count();
-    let width = 1 + 4 * roles as usize;
-    admit(
-        source.class_count(),
-        held,
-        denied,
-        contexts.len(),
-        clauses.len(),
-        width,
-        model.len(),
-    )?;
-    let mut axioms = [blank(); MOST_AXIOMS];
-    let count = load(source, &mut axioms);
-    conclude_model(
-        &axioms, count, roles, contexts, clauses, model, held, denied,
-    )
+    let width = ModelTable::row_words(roles);
+    let mut slots = [Axiom::default(); MOST_AXIOMS];
+    let axioms = admit(source, goal, contexts.len(), clauses.len(), &mut slots)?;
+    if contexts.len() * width > model.len() {
+        return Err(Refusal::TableSize.at(0, Layer::Ask));
+    }
+    fill_with_model(axioms, roles, contexts, clauses, model, goal)
 }

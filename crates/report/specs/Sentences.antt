@@ -1,5 +1,5 @@
 -- How an axiom reads as a line of text.
-use Rattle.std.specs.Prelude.{◌≡◌, ℕ, zero, suc, cond, List, [], ◌++◌, codes, ◌==◌, slice_index_or}
+use Rattle.std.specs.Prelude.{◌≡◌, ℕ, zero, suc, cond, List, [], ◌∷◌, ◌++◌, codes, ◌==◌, slice_index_or}
 use Rattle.terms.specs.Sets.{has, count_below}
 use Rattle.terms.specs.declared.axioms.Axiom.{Axiom}
 use Rattle.terms.specs.declared.axioms.Axiom.TheVariants.{Inclusion, Exists, ExistsLower, Forall, RoleInclusion}
@@ -38,3 +38,7 @@ sentence c (Exists lower role filler) = restriction c lower (codes " has some ")
 sentence c (ExistsLower role filler upper) = codes "anything with some " ++ (role_name c role ++ (codes " in " ++ (class_name c filler ++ (codes " under " ++ class_name c upper))))
 sentence c (Forall lower role filler) = restriction c lower (codes " has every ") role filler
 sentence c (RoleInclusion sub sup) = codes "role " ++ (role_name c sub ++ (codes " under " ++ role_name c sup))
+
+-- a line feed
+abbrev pub feed : List ℕ
+feed = 10 ∷ []

@@ -1,11 +1,14 @@
 -- Rows that hold the tests of which role leads to which, one axiom after another.
-use Rattle.std.proofs.Common.{◌≡◌, ℕ, ◌+◌, ◌-◌, ◌<◌, ◌≤◌, ◌&&◌, ◌||◌, eqb, List, ◌∷◌, length, get_or, drop, set, sym, refl, ap, ◌∙◌, subst, inl, inr, arith, length-set, below_more}
-use Rattle.std.specs.List.{AllByRecursion}
-use Rattle.std.proofs.lemmas.List.{get_or_past, get_or-set_same, get_or-set_other, drop_more, drop_all}
-use Rattle.std.proofs.ByRecursion.{All-get_or, All-weaker}
+use Rattle.std.proofs.Common.{◌≡◌, ℕ, ◌+◌, ◌<◌, ◌≤◌, ◌&&◌, ◌||◌, eqb, List, [], ◌∷◌, ◌++◌, append_assoc, length, get_or, set, sym, refl, ap, ◌∙◌, subst, inl, inr, arith, length-set, below_more}
+use mathlib.Core.Bool.{Bool-set}
+use mathlib.Core.Logic.{∥∥₁_elim}
+use Rattle.std.specs.Coded.{le_prop}
+use Rattle.std.specs.List.{AllByRecursion, push}
+use Rattle.std.proofs.lemmas.List.{get_or_past, get_or-set_same, get_or-set_other}
+use Rattle.std.proofs.ByRecursion.{All-weaker}
 use Rattle.std.proofs.lemmas.Bool.{cases_eq, cases_lt, eq-eqb, ne_eqb}
 use Rattle.terms.specs.Sets.{has, Has, only}
-use Rattle.terms.specs.Axioms.{WellFormed, Declared, blank}
+use Rattle.terms.specs.Axioms.{WellFormed, Declared}
 use Rattle.terms.specs.declared.axioms.Axiom.{Axiom}
 use Rattle.terms.specs.declared.axioms.Axiom.TheVariants.{Inclusion, Exists, ExistsLower, Forall, RoleInclusion}
 use Rattle.terms.proofs.Masks.{has_only, zero_none}
@@ -22,10 +25,9 @@ pub record Tested (axs : List Axiom) (rows : List ℕ) : Type 0 where
 eqb_turned : (p q : ℕ) → eqb q p ≡ eqb p q
 eqb_turned p q = elim (cases_eq q p) [ inl e ↦ eq-eqb q p e ∙ sym (eq-eqb p q (sym e)) | inr n ↦ ne_eqb q p n ∙ sym (ne_eqb p q (λ e. n (sym e))) ]
 
-pub tested_none : (axs : List Axiom) (rows : List ℕ) → ((p : ℕ) → p < 16 → get_or rows p 0 ≡ only p) → Tested (drop (length axs) axs) rows
+pub tested_none : (rows : List ℕ) → ((p : ℕ) → p < 16 → get_or rows p 0 ≡ only p) → Tested [] rows
 unfolding leads
-tested_none axs rows h = subst (λ xs. Tested xs rows) (sym (drop_all (length axs) axs (omega arith)))
-    (record { same = λ p q l. ap (λ s. has s q) (h p l) ∙ has_only p q ∙ eqb_turned p q })
+tested_none rows h = record { same = λ p q l. ap (λ s. has s q) (h p l) ∙ has_only p q ∙ eqb_turned p q }
 
 -- an axiom of another form
 leads_other : (x : Axiom) (axs : List Axiom) (p q : ℕ) → ((u v : ℕ) → x ≡ RoleInclusion u v → ⊥) → leads axs p q ≡ leads (x ∷ axs) p q
@@ -36,40 +38,49 @@ leads_other (ExistsLower r a b) axs p q n = refl
 leads_other (Forall a r b) axs p q n = refl
 leads_other (RoleInclusion a b) axs p q n = absurd (n a b refl)
 
--- the axioms from the one before i on
-drop_back : (axs : List Axiom) (i : ℕ) (x : Axiom) → 0 < i → i ≤ length axs → get_or axs (i - 1) blank ≡ x → drop (i - 1) axs ≡ x ∷ drop i axs
-drop_back axs i x l h e =
-    let back : (i - 1) + 1 ≡ i = omega arith in
-    drop_more axs (i - 1) blank (omega arith) ∙ (λ j. e j ∷ drop (back j) axs)
-
-pub tested_other : (axs : List Axiom) (i : ℕ) (rows : List ℕ) → 0 < i → i ≤ length axs → ((u v : ℕ) → get_or axs (i - 1) blank ≡ RoleInclusion u v → ⊥)
-    → Tested (drop i axs) rows → Tested (drop (i - 1) axs) rows
-tested_other axs i rows l h n t = subst (λ xs. Tested xs rows) (sym (drop_back axs i (get_or axs (i - 1) blank) l h refl))
-    (record { same = λ p q low. t.same p q low ∙ leads_other (get_or axs (i - 1) blank) (drop i axs) p q n })
+pub tested_other : (x : Axiom) (axs : List Axiom) (rows : List ℕ) → ((u v : ℕ) → x ≡ RoleInclusion u v → ⊥) → Tested axs rows → Tested (x ∷ axs) rows
+tested_other x axs rows n t = record { same = λ p q low. t.same p q low ∙ leads_other x axs p q n }
 
 -- a role inclusion
-pub tested_more : (axs : List Axiom) (i a b : ℕ) (rows rows' : List ℕ) → 0 < i → i ≤ length axs → get_or axs (i - 1) blank ≡ RoleInclusion a b → b < 16
+pub tested_more : (x : Axiom) (axs : List Axiom) (a b : ℕ) (rows rows' : List ℕ) → x ≡ RoleInclusion a b → b < 16
     → ((p q : ℕ) → p < 16 → has (get_or rows' p 0) q ≡ (has (get_or rows p 0) q || (has (get_or rows p 0) a && has (get_or rows b 0) q)))
-    → Tested (drop i axs) rows → Tested (drop (i - 1) axs) rows'
+    → Tested axs rows → Tested (x ∷ axs) rows'
 unfolding leads
-tested_more axs i a b rows rows' l h e low more t = subst (λ xs. Tested xs rows') (sym (drop_back axs i (RoleInclusion a b) l h e))
+tested_more x axs a b rows rows' e low more t = subst (λ y. Tested (y ∷ axs) rows') (sym e)
     (record { same = λ p q lp. more p q lp ∙ (λ j. t.same p q lp j || (t.same p a lp j && t.same b q low j)) })
 
-pub sup_low : (axs : List Axiom) (i a b : ℕ) → AllByRecursion (Included 16) axs → i < length axs → get_or axs i blank ≡ RoleInclusion a b → b < 16
-sup_low axs i a b all l e = (subst (Included 16) e (All-get_or (Included 16) axs i blank l all)).1
+-- ---- the axioms from the last on
+
+-- with one axiom less to go, it is done
+pub one_done : (axs rest less done : List Axiom) (x : Axiom) → axs ≡ rest ++ done → rest ≡ push less x → axs ≡ less ++ x ∷ done
+one_done axs rest less done x e f = e ∙ ap (λ r. r ++ done) f ∙ append_assoc less (x ∷ []) done
+
+middle : (P : Axiom → Type 0) (xs : List Axiom) (x : Axiom) (ys : List Axiom) → AllByRecursion P (xs ++ x ∷ ys) → P x
+middle P [] x ys all = all.0
+middle P (y ∷ xs) x ys all = middle P xs x ys all.1
+
+pub sup_low : (axs xs ys : List Axiom) (x : Axiom) (a b : ℕ) → AllByRecursion (Included 16) axs → axs ≡ xs ++ x ∷ ys → x ≡ RoleInclusion a b → b < 16
+sup_low axs xs ys x a b all e is = (subst (Included 16) is (middle (Included 16) xs x ys (subst (AllByRecursion (Included 16)) e all))).1
 
 -- what a role below r reaches is below r
 pub reach_below : (r : ℕ) (axs : List Axiom) (p q : ℕ) → AllByRecursion (Included r) axs → p < r → Reaches axs p q → q < r
 reach_below r axs p q all l here = l
 reach_below r axs p q all l (step {q = m} f i) = (all_mem (Included r) axs all (RoleInclusion m q) i).1
 
-pub tested_shows : (axs : List Axiom) (rows : List ℕ) → length rows ≡ 16 → AllByRecursion (Included 16) axs → Tested (drop 0 axs) rows → Shows axs rows
+pub tested_shows : (axs : List Axiom) (rows : List ℕ) → length rows ≡ 16 → AllByRecursion (Included 16) axs → Tested axs rows → Shows axs rows
 tested_shows axs rows n all t = record {
   right = λ p q l. (λ h. leads_of axs p q (sym (t.same p q l) ∙ h), λ h. t.same p q l ∙ reach_leads axs p q h);
   low = λ p q h. elim (cases_lt p 16) [
     | inl l ↦ reach_below 16 axs p q all l (leads_of axs p q (sym (t.same p q l) ∙ h))
     | inr past ↦ absurd (zero_none q (subst (λ s. Has s q) (get_or_past rows p 0 (omega arith)) h))
   ];
+}
+
+-- what is known to be so of rows can be told again, since each of its questions has a test
+pub shows_told : {axs : List Axiom} {rows : List ℕ} → ∥ Shows axs rows ∥₁ → Shows axs rows
+shows_told {axs} {rows} t = record {
+  right = λ p q l. (λ h. leads_of axs p q (∥∥₁_elim t (Bool-set _ _) (λ w. reach_leads axs p q ((w.right p q l).0 h))), λ r. ∥∥₁_elim t (Bool-set _ _) (λ w. (w.right p q l).1 r));
+  low = λ p a h. ∥∥₁_elim t le_prop (λ w. w.low p a h);
 }
 
 -- axioms that keep to r roles have their role inclusions below any greater number
@@ -91,26 +102,16 @@ Widened before rows a more k =
     ((p : ℕ) → p < k → (q : ℕ) → has (get_or rows p 0) q ≡ (has (get_or before p 0) q || (has (get_or before p 0) a && has more q)))
     × ((p : ℕ) → k ≤ p → get_or rows p 0 ≡ get_or before p 0)
 
-pub include_turn : (before rows : List ℕ) (a more k w : ℕ) → k < length rows → Widened before rows a more k
-    → ((q : ℕ) → has w q ≡ (has (get_or rows k 0) q || (has (get_or rows k 0) a && has more q)))
-    → Widened before (set rows k w) a more (k + 1)
-include_turn before rows a more k w l v h = (
-  below_more (λ p. (q : ℕ) → has (get_or (set rows k w) p 0) q ≡ (has (get_or before p 0) q || (has (get_or before p 0) a && has more q))) k
-      (λ p lp q. ap (λ s. has s q) (get_or-set_other rows k p w 0 (omega arith)) ∙ v.0 p lp q)
-      (λ q. ap (λ s. has s q) (get_or-set_same rows k w 0 l) ∙ h q ∙ (let e = v.1 k (omega arith) in λ i. has (e i) q || (has (e i) a && has more q))),
-  λ p lp. get_or-set_other rows k p w 0 (omega arith) ∙ v.1 p (omega arith),
-)
-
 -- ---- the rows of no axiom
 
 -- the first k rows have their own role alone
 abbrev pub Own : List ℕ → ℕ → Type 0
 Own rows k = (length rows ≡ 16) × ((p : ℕ) → p < k → get_or rows p 0 ≡ only p)
 
-pub own_turn : (rows : List ℕ) (k j w : ℕ) → k < 16 → j ≡ k → w ≡ only k → Own rows k → Own (set rows j w) (k + 1)
-own_turn rows k j w l e v o = (
-  length-set rows j w ∙ o.0,
-  below_more (λ p. get_or (set rows j w) p 0 ≡ only p) k
-      (λ p lp. get_or-set_other rows j p w 0 (omega arith) ∙ o.1 p lp)
-      (ap (λ i. get_or (set rows j w) i 0) (sym e) ∙ get_or-set_same rows j w 0 (omega (arith, o.0)) ∙ v),
+pub own_turn : (rows : List ℕ) (k w : ℕ) → k < 16 → w ≡ only k → Own rows k → Own (set rows k w) (k + 1)
+own_turn rows k w l v o = (
+  length-set rows k w ∙ o.0,
+  below_more (λ p. get_or (set rows k w) p 0 ≡ only p) k
+      (λ p lp. get_or-set_other rows k p w 0 (omega arith) ∙ o.1 p lp)
+      (get_or-set_same rows k w 0 (omega (arith, o.0)) ∙ v),
 )

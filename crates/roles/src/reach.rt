@@ -20,11 +20,11 @@ impl Reach {
         ensures { Shows axioms.now result.rows }
     {
         let mut rows = [0; 16];
-        for role in 0..16u8 {
-            rows[usize::from(role)] = ClassSet::single(role).bits();
+        for (role, row) in rows.iter_mut().enumerate() {
+            *row = ClassSet::single(role as u8).bits();
         }
-        for i in (0..axioms.len()).rev() {
-            if let Axiom::RoleInclusion { sub, sup } = axioms[i] {
+        for axiom in axioms.iter().rev() {
+            if let Axiom::RoleInclusion { sub, sup } = *axiom {
                 include(&mut rows, sub, sup);
             }
         }
@@ -47,8 +47,8 @@ fn include(rows: &mut [u64], sub: u8, sup: u8)
         ≡ (has (slice_index rows.old p) q || (has (slice_index rows.old p) sub && has (slice_index rows.old sup) q)) }
 {
     let more = ClassSet::from_bits(rows[usize::from(sup)]);
-    for role in 0..rows.len() {
-        rows[role] = widened(ClassSet::from_bits(rows[role]), sub, more).bits();
+    for row in rows {
+        *row = widened(ClassSet::from_bits(*row), sub, more).bits();
     }
 }
 

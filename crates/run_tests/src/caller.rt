@@ -1,9 +1,7 @@
 //! A caller who chooses each call after what it heard.
-ghost use Rattle.book.specs.Owned.{whole_of};
-ghost use Rattle.runs.specs.Calls.{ShownBy};
-
-use crate::seeing::*;
+use crate::sharing::*;
 use book::Book;
+use reasoner::Answer;
 use runs::{Call, Caller, Heard, converse};
 use sources::{RecordTable, Source};
 use std::test::Fail;
@@ -12,26 +10,21 @@ use tables::{ClauseRecord, ContextRecord};
 /// Asks whether payroll can be without shared, and says that wages are shared once it can. It writes over the tables before each call.
 #[derive(Drop)]
 struct Asker {
+    // `free` falls with the next call, while `shown` stays to the end.
     free: bool,
-    shown: u64,
+    shown: Option<u64>,
 }
 
-impl<'a> Caller<'a> for Asker {
+impl<'a> Caller<Call<'a>> for Asker {
     fn call(
         &mut self,
         contexts: &mut [ContextRecord],
         clauses: &mut [ClauseRecord],
         model: &mut [u64],
     ) -> Call<'a> {
-        for slot in contexts.iter_mut() {
-            *slot = context();
-        }
-        for slot in clauses.iter_mut() {
-            *slot = clause();
-        }
-        for word in model.iter_mut() {
-            *word = 77;
-        }
+        contexts.fill(ContextRecord::default());
+        clauses.fill(ClauseRecord::default());
+        model.fill(77);
         if self.free {
             self.free = false;
             return Call::Add {
@@ -42,11 +35,12 @@ impl<'a> Caller<'a> for Asker {
     }
 
     fn hear<S: Source>(&mut self, _book: &Book<S>, _call: Call<'a>, heard: Heard, model: &[u64]) {
-        if let Seen::Something { .. } = view(heard) {
+        if let Heard::Asked {
+            told: Ok(Answer::Something { .. }),
+        } = heard
+        {
             self.free = true;
-            if let Some(word) = model.first() {
-                self.shown = *word;
-            }
+            self.shown = model.first().copied();
         }
     }
 }
@@ -58,37 +52,24 @@ fn an_axiom_more_and_asked_again(rt: HostRuntime) -> Result<(), Fail> {
     source.open(4, 0, &below)?;
     let mut caller = Asker {
         free: false,
-        shown: 0,
+        shown: None,
     };
     let mut calls = [payroll_not_shared(0, None); 3];
-    let mut heard = [Heard::Changed { told: Ok(()) }; 3];
+    let mut heard = [done(); 3];
     let mut model = [0; 2];
     let made = converse(
         source,
         &mut caller,
         &mut calls,
         &mut heard,
-        &mut [context(); 1],
-        &mut [clause(); 6],
+        &mut [ContextRecord::default(); 1],
+        &mut [ClauseRecord::default(); 6],
         &mut model,
     );
     assert_eq!(rt; made, 3);
-    let wanted = [
-        Seen::Something {
-            contexts: 1,
-            clauses: 2,
-            elements: Some(1),
-        },
-        Seen::Done,
-        Seen::Nothing {
-            contexts: 1,
-            clauses: 6,
-        },
-    ];
-    for i in 0..3 {
-        assert_eq!(rt; view(heard[i]), wanted[i], "call {i}");
-    }
-    assert_eq!(rt; caller.shown, 5);
+    let wanted = [something(1, 2, Some(1)), done(), nothing(1, 6)];
+    assert_eq!(rt; heard, wanted);
+    assert_eq!(rt; caller.shown, Some(5));
     assert_eq!(rt; model, [77, 77]);
     Ok(())
 }

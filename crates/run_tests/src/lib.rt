@@ -1,6 +1,6 @@
 //! Runs of calls on a book tried on examples.
 //!
-//! The crate has tests alone; `seeing` has what they share.
+//! The crate has tests alone; `sharing` has what they share.
 #![tactic(auto)]
 
 #[cfg(test)]
@@ -8,4 +8,4 @@ mod caller;
 #[cfg(test)]
 mod list;
 #[cfg(test)]
-mod seeing;
+mod sharing;

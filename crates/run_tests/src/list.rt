@@ -1,10 +1,11 @@
 //! A list of calls, made one after the other.
-use crate::seeing::*;
+use crate::sharing::*;
 use runs::{Call, Heard, life};
 use sources::RecordTable;
 use std::test::Fail;
+use tables::{ClauseRecord, ContextRecord};
 use terms::Layer;
-use worlds::Finding;
+use worlds::Breach;
 
 /// Payroll is finance or wages, and finance is shared. The book adds that wages are shared, then that nothing is wages, then nothing.
 #[test]
@@ -49,60 +50,50 @@ fn a_book_changes_and_is_asked(rt: HostRuntime) -> Result<(), Fail> {
         Call::Strike { number: 0 },
         payroll_not_shared(6, Some(1)),
     ];
-    let blank = Heard::Changed { told: Ok(()) };
-    let mut heard = [blank; 15];
+    let mut heard = [done(); 15];
     let mut model = [77; 2];
     let made = life(
         source,
         &calls,
         &mut heard,
-        &mut [context(); 1],
-        &mut [clause(); 6],
+        &mut [ContextRecord::default(); 1],
+        &mut [ClauseRecord::default(); 6],
         &mut model,
     );
     assert_eq!(rt; made, 14);
-    let some = Seen::Something {
-        contexts: 1,
-        clauses: 2,
-        elements: None,
-    };
-    let none = Seen::Nothing {
-        contexts: 1,
-        clauses: 6,
-    };
     let wanted = [
-        some,
-        Seen::Done,
-        none,
-        refusal(23, Layer::Ask),
-        Seen::Found {
-            finding: Finding::Broken {
+        something(1, 2, None),
+        done(),
+        nothing(1, 6),
+        Heard::Asked {
+            told: Err(refusal(23, Layer::Ask)?),
+        },
+        Heard::Audited {
+            told: Ok(Some(Breach {
                 number: 0,
                 element: 0,
-            },
+            })),
         },
-        Seen::Found {
-            finding: Finding::Passes,
+        Heard::Audited { told: Ok(None) },
+        Heard::Audited {
+            told: Err(refusal(11, Layer::World)?),
         },
-        refusal(11, Layer::World),
-        refusal(8, Layer::Book),
-        refusal(21, Layer::Book),
-        Seen::Done,
-        Seen::Nothing {
-            contexts: 1,
-            clauses: 5,
+        Heard::Changed {
+            told: Err(refusal(8, Layer::Book)?),
         },
-        refusal(21, Layer::Book),
-        Seen::Done,
-        Seen::Something {
-            contexts: 1,
-            clauses: 2,
-            elements: Some(1),
+        Heard::Changed {
+            told: Err(refusal(21, Layer::Book)?),
         },
+        done(),
+        nothing(1, 5),
+        Heard::Changed {
+            told: Err(refusal(21, Layer::Book)?),
+        },
+        done(),
+        something(1, 2, Some(1)),
     ];
-    for i in 0..14 {
-        assert_eq!(rt; view(heard[i]), wanted[i], "call {i}");
-    }
+    assert_eq!(rt; heard[..14], wanted[..]);
+    assert_eq!(rt; heard[14], done());
     assert_eq!(rt; model, [5, 77]);
     Ok(())
 }

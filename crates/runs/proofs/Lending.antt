@@ -13,23 +13,28 @@ use Rattle.tables.specs.declared.records.ClauseRecord.{ClauseRecord}
 use Rattle.reasoner.specs.Asks.{in_ask, goal_of, ask_checks, RoomOf, Right, TablesAfter, ModelAfter}
 use Rattle.reasoner.specs.declared.answer.Answer.{Answer}
 use Rattle.reasoner.specs.declared.answer.Answer.TheVariants.{Nothing, Something}
-use Rattle.runs.specs.Calls.{Lent, words_of, Brings, PlainAsk, ShowsWorld, ShownAsk}
-use Rattle.runs.specs.Tables.{slots, ModelLeft, AskLeaves}
+use Rattle.runs.specs.Calls.{words_of, Brings, PlainAsk, ShowsWorld, ShownAsk}
+use Rattle.runs.specs.declared.run_tables.RunTables.{RunTables}
+use Rattle.runs.specs.Tables.{slots, room_of, ModelLeft, AskLeaves}
 
 -- so many slots are lent
-pub lent_slots : {X : Type 0} (k r : ℕ) (xs : List X) → r ≡ min k (length xs) → length (take r xs) ≡ min k (length xs)
+lent_slots : {X : Type 0} (k r : ℕ) (xs : List X) → r ≡ min k (length xs) → length (take r xs) ≡ min k (length xs)
 lent_slots k r xs e = length-take r xs ∙ (omega (arith, e))
 
-pub plain_ask : (b : Meaning) (l : Lent) (P N : ClassSet) (k j : ℕ) (words : Option ℕ) (t : Told Answer) {x y : ℕ} → x ≡ min k l.contexts → y ≡ min j l.clauses
-    → Answers (ask_checks b P N x y (RoomOf b x (words_of l words))) 0 in_ask (λ a. Right b.axioms P N a × Brings words a) t → PlainAsk b l P N k j words t
-plain_ask b l P N k j words t {x} {y} e f h =
-    subst (λ z. Answers (ask_checks b P N (min k l.contexts) z (RoomOf b (min k l.contexts) (words_of l words))) 0 in_ask (λ a. Right b.axioms P N a × Brings words a) t) f
-    (subst (λ z. Answers (ask_checks b P N z y (RoomOf b z (words_of l words))) 0 in_ask (λ a. Right b.axioms P N a × Brings words a) t) e h)
+module _ (b : Meaning) (l : RunTables) (P N : ClassSet) (k j : ℕ) {n o : ℕ} (few : n ≡ min k (length l.contexts.now)) (some : o ≡ min j (length l.clauses.now)) where
+  -- what an ask tells that is lent x context slots, y clause slots and so many words
+  abbrev pub Tells : ℕ → ℕ → Option ℕ → Option ℕ → Told Answer → Type 0
+  Tells x y lent_words words t = Answers (ask_checks b P N x y (RoomOf b x lent_words)) 0 in_ask (λ a. Right b.axioms P N a × Brings words a) t
 
-pub plain_ask_model : (b : Meaning) (l : Lent) (P N : ClassSet) (k j w : ℕ) (t : Told Answer) {x y z : ℕ} → x ≡ min k l.contexts → y ≡ min j l.clauses → z ≡ min w l.words
-    → Answers (ask_checks b P N x y (RoomOf b x (Some z))) 0 in_ask (λ a. Right b.axioms P N a × Brings (Some w) a) t → PlainAsk b l P N k j (Some w) t
-plain_ask_model b l P N k j w t {x} {y} e f g h =
-    plain_ask b l P N k j (Some w) t e f (subst (λ n. Answers (ask_checks b P N x y (RoomOf b x (Some n))) 0 in_ask (λ a. Right b.axioms P N a × Brings (Some w) a) t) g h)
+  pub plain_ask : (words : Option ℕ) (t : Told Answer) → Tells (length (take n l.contexts.now)) (length (take o l.clauses.now)) (words_of (room_of l) words) words t → PlainAsk b (room_of l) P N k j words t
+  plain_ask words t h =
+      subst (λ z. Tells (min k (length l.contexts.now)) z (words_of (room_of l) words) words t) (lent_slots j o l.clauses.now some)
+      (subst (λ z. Tells z (length (take o l.clauses.now)) (words_of (room_of l) words) words t) (lent_slots k n l.contexts.now few) h)
+
+  pub plain_ask_model : (w : ℕ) (t : Told Answer) {m : ℕ} → m ≡ min w (length l.model.now)
+      → Tells (length (take n l.contexts.now)) (length (take o l.clauses.now)) (Some (length (take m l.model.now))) (Some w) t → PlainAsk b (room_of l) P N k j (Some w) t
+  plain_ask_model w t {m} e h =
+      plain_ask (Some w) t (subst (λ z. Tells (length (take n l.contexts.now)) (length (take o l.clauses.now)) (Some z) (Some w) t) (lent_slots w m l.model.now e) h)
 
 -- what is lent of a table where n is as many of its slots as k allows, and ys is what stands in them afterwards
 module _ {X : Type 0} (k : ℕ) (xs : List X) (n : ℕ) (few : n ≡ min k (length xs)) where
@@ -47,24 +52,28 @@ module _ {X : Type 0} (k : ℕ) (xs : List X) (n : ℕ) (few : n ≡ min k (leng
 
 -- what an ask promises of what it was lent, said of the whole tables
 pub ask_left : (b : Meaning) (P N : ClassSet) (k j : ℕ) (words : Option ℕ) (t : Told Answer) (xs : List ContextRecord) (ys : List ClauseRecord) (zs ws : List ℕ) (n o : ℕ) (us : List ContextRecord) (vs : List ClauseRecord)
-    → n ≡ min k (length xs) → o ≡ min j (length ys) → length us ≡ n → length vs ≡ o → TablesAfter b.axioms (goal_of P N) (take n xs) (take o ys) us vs t → ModelLeft b P N words t zs ws
+    → n ≡ min k (length xs) → o ≡ min j (length ys) → length us ≡ length (take n xs) → length vs ≡ length (take o ys) → TablesAfter b.axioms (goal_of P N) (take n xs) (take o ys) us vs t → ModelLeft b P N words t zs ws
     → AskLeaves b P N k j words t (slots xs ys zs) (slots (us ++ drop n xs) (vs ++ drop o ys) ws)
-ask_left b P N k j words t xs ys zs ws n o us vs few some lx ly h m = record {
-  tables =
-      let u = us ++ drop n xs in
-      let v = vs ++ drop o ys in
-      let G = goal_of P N in
-      subst (λ z. TablesAfter b.axioms G z (take j ys) (take k u) (take j v) t) (lent_front k xs n few)
-      (subst (λ z. TablesAfter b.axioms G (take n xs) z (take k u) (take j v) t) (lent_front j ys o some)
-      (subst (λ z. TablesAfter b.axioms G (take n xs) (take o ys) z (take j v) t) (sym (lent_part k xs n few us lx))
-      (subst (λ z. TablesAfter b.axioms G (take n xs) (take o ys) us z t) (sym (lent_part j ys o some vs ly)) h)));
-  other_contexts = lent_rest k xs n few us lx;
-  other_clauses = lent_rest j ys o some vs ly;
-  model = m;
-}
+ask_left b P N k j words t xs ys zs ws n o us vs few some sx sy h m =
+    let lx = sx ∙ lent_slots k n xs few ∙ sym few in
+    let ly = sy ∙ lent_slots j o ys some ∙ sym some in
+    record {
+      tables =
+          let u = us ++ drop n xs in
+          let v = vs ++ drop o ys in
+          let G = goal_of P N in
+          subst (λ z. TablesAfter b.axioms G z (take j ys) (take k u) (take j v) t) (lent_front k xs n few)
+          (subst (λ z. TablesAfter b.axioms G (take n xs) z (take k u) (take j v) t) (lent_front j ys o some)
+          (subst (λ z. TablesAfter b.axioms G (take n xs) (take o ys) z (take j v) t) (sym (lent_part k xs n few us lx))
+          (subst (λ z. TablesAfter b.axioms G (take n xs) (take o ys) us z t) (sym (lent_part j ys o some vs ly)) h)));
+      other_contexts = lent_rest k xs n few us lx;
+      other_clauses = lent_rest j ys o some vs ly;
+      model = m;
+    }
 
-pub model_left : (b : Meaning) (P N : ClassSet) (w : ℕ) (t : Told Answer) (zs : List ℕ) (n : ℕ) (ws : List ℕ) → n ≡ min w (length zs) → length ws ≡ n → ModelAfter b P N (take n zs) ws t → ModelLeft b P N (Some w) t zs (ws ++ drop n zs)
-model_left b P N w t zs n ws few l h =
+pub model_left : (b : Meaning) (P N : ClassSet) (w : ℕ) (t : Told Answer) (zs : List ℕ) (n : ℕ) (ws : List ℕ) → n ≡ min w (length zs) → length ws ≡ length (take n zs) → ModelAfter b P N (take n zs) ws t → ModelLeft b P N (Some w) t zs (ws ++ drop n zs)
+model_left b P N w t zs n ws few s h =
+    let l = s ∙ lent_slots w n zs few ∙ sym few in
     (subst (λ z. ModelAfter b P N z (take w (ws ++ drop n zs)) t) (lent_front w zs n few) (subst (λ z. ModelAfter b P N (take n zs) z t) (sym (lent_part w zs n few ws l)) h), lent_rest w zs n few ws l)
 
 pub shown_ask : (b : Meaning) (P N : ClassSet) (w : ℕ) (r : Result Answer Fault) (before whole : List ℕ) {after : List ℕ} → take w whole ≡ after → ModelAfter b P N before after (told r) → ShownAsk b P N (Some w) r whole

@@ -9,7 +9,7 @@ use Rattle.sources.specs.Meanings.{Meaning}
 use Rattle.worlds.specs.Models.{model_world, model_checks}
 use Rattle.worlds.specs.Entries.{entry_world, entry_checks}
 use Rattle.worlds.specs.Audits.{in_world, Audited}
-use Rattle.worlds.specs.declared.audit.Finding.{Finding}
+use Rattle.worlds.specs.declared.audit.Breach.{Breach}
 use Rattle.worlds.proofs.Findings.{one_finding}
 use Rattle.reasoner.specs.Asks.{in_ask, ask_checks, RoomOf, Right, Same}
 use Rattle.reasoner.specs.declared.answer.Answer.{Answer}
@@ -32,9 +32,9 @@ Tells m l own (call.Strike i) h later = (r : Result (Unit {0}) Fault) × (h ≡ 
 Tells m l own (call.Add a) h later = (r : Result (Unit {0}) Fault) × (h ≡ heard.Changed r) × PlainAdd m own a (told r) later
 Tells m l own (call.Amend i a) h later = (r : Result (Unit {0}) Fault) × (h ≡ heard.Changed r) × PlainAmend m own i a (told r) later
 Tells m l own (call.Ask P N k j words) h later = (r : Result Answer Fault) × (h ≡ heard.Asked r) × PlainAsk (book_meaning m own) l P N k j words (told r) × (later ≡ own)
-Tells m l own (call.AuditModel words roles size) h later = (r : Result Finding Fault) × (h ≡ heard.Audited r)
+Tells m l own (call.AuditModel words roles size) h later = (r : Result (Option Breach) Fault) × (h ≡ heard.Audited r)
     × Answers (model_checks words.now roles size) 0 in_world (Audited (standing m own) (model_world words.now roles size)) (told r) × (later ≡ own)
-Tells m l own (call.AuditEntries classes links) h later = (r : Result Finding Fault) × (h ≡ heard.Audited r)
+Tells m l own (call.AuditEntries classes links) h later = (r : Result (Option Breach) Fault) × (h ≡ heard.Audited r)
     × Answers (entry_checks classes.now links.now) 0 in_world (Audited (standing m own) (entry_world classes.now links.now)) (told r) × (later ≡ own)
 
 tells : {m : Meaning} {l : Lent} {own : List Axiom} {c : Call} {h : Heard} {later : List Axiom} → Answered m l own c h later → Tells m l own c h later

@@ -1,5 +1,5 @@
 -- The law, of every run: by going from its end to its beginning.
-use Rattle.std.proofs.Common.{◌≡◌, ℕ, suc, ◌+◌, ◌<◌, ◌≤◌, min, ◌⊎◌, ◌↔◌, List, [], ◌∷◌, ◌++◌, length, get_or, take, Ok, Err, Option, Result, sym, refl, ap, ◌∙◌, subst, inl, inr, ⊎_elim, append_assoc, append-nil, arith, length-append, take_all}
+use Rattle.std.proofs.Common.{◌≡◌, ℕ, suc, ◌+◌, ◌<◌, ◌≤◌, min, ◌⊎◌, ◌↔◌, List, [], ◌∷◌, ◌++◌, length, get_or, take, None, Ok, Err, Option, Result, sym, refl, ap, ◌∙◌, subst, inl, inr, ⊎_elim, append_assoc, append-nil, arith, length-append, take_all}
 use lib.Seq.{take-append-le, take-append_seam}
 use Rattle.std.proofs.lemmas.List.{get_or_append_left, get_or-append-add}
 use Rattle.std.proofs.lemmas.Bool.{cases_lt}
@@ -10,7 +10,6 @@ use Rattle.terms.specs.declared.refusals.Fault.{Fault}
 use Rattle.sources.specs.Meanings.{Meaning}
 use Rattle.worlds.specs.Worlds as Of
 use Rattle.worlds.specs.Worlds.{Obeys, Possible}
-use Rattle.worlds.specs.declared.audit.Finding.TheVariants as finding
 use Rattle.reasoner.specs.Asks.{in_ask, goal_of, FitsInto, admit_checks, ask_checks, RoomOf}
 use Rattle.reasoner.specs.declared.answer.Answer.{Answer}
 use Rattle.book.specs.Books.{standing, book_meaning}
@@ -22,14 +21,14 @@ use Rattle.runs.specs.Calls.{Lent, words_of, PlainAsk, Answered, strikes, adds, 
 use Rattle.runs.specs.Law.{later_of, own_after, own_at, At, Audits, a_model, entries, Lawful}
 
 -- one more call, on a book over a source that means n
-pub run_on : (m n : Meaning) (l : Lent) (own later last : List Axiom) (c : Call) (h : Heard) (cs ds : List Call) (hs ks : List Heard) → ds ≡ cs ++ c ∷ [] → ks ≡ hs ++ h ∷ []
+pub run_on : {m n : Meaning} {l : Lent} {own later last : List Axiom} {c : Call} {h : Heard} {cs ds : List Call} {hs ks : List Heard} → ds ≡ cs ++ c ∷ [] → ks ≡ hs ++ h ∷ []
     → n ≡ m → Run m l own cs hs later → Answered n l later c h last → Run m l own ds ks last
-run_on m n l own later last c h cs ds hs ks p q e r a =
+run_on {m} {n} {l} {own} {later} {last} {c} {h} {cs} {ds} {hs} {ks} p q e r a =
     subst (λ zs. Run m l own zs ks last) (sym p) (subst (λ zs. Run m l own (cs ++ c ∷ []) zs last) (sym q) (one_more later last c h cs hs r (subst (λ x. Answered x l later c h last) e a)))
 
 -- tables of the same sizes
-pub answered_lent : {m : Meaning} (l n : Lent) {own later : List Axiom} {c : Call} {h : Heard} → l.contexts ≡ n.contexts → l.clauses ≡ n.clauses → l.words ≡ n.words → Answered m l own c h later → Answered m n own c h later
-answered_lent {m} l n {own} {later} {c} {h} a b d p = subst (λ z. Answered m z own c h later) (λ i. record { contexts = a i; clauses = b i; words = d i }) p
+pub answered_lent : {m : Meaning} {l n : Lent} {own later : List Axiom} {c : Call} {h : Heard} → l.contexts ≡ n.contexts → l.clauses ≡ n.clauses → l.words ≡ n.words → Answered m l own c h later → Answered m n own c h later
+answered_lent {m} {l} {n} {own} {later} {c} {h} a b d p = subst (λ z. Answered m z own c h later) (λ i. record { contexts = a i; clauses = b i; words = d i }) p
 
 -- the own list after a call is the one that the call and what was heard make
 pub answered_later : {m : Meaning} {l : Lent} {own : List Axiom} {c : Call} {h : Heard} {later : List Axiom} → Answered m l own c h later → later ≡ later_of own c h
@@ -106,7 +105,7 @@ run_at {m} {l} {own} (one_more later last d k cs hs r w) i c h a = ⊎_elim
 ask_of : {m : Meaning} {l : Lent} {own later : List Axiom} {P N : ClassSet} {k j : ℕ} {words : Option ℕ} {r : Result Answer Fault} → Answered m l own (call.Ask P N k j words) (heard.Asked r) later → PlainAsk (book_meaning m own) l P N k j words (told r)
 ask_of (asks P N k j words r p) = p
 
-passed_of : {m : Meaning} {l : Lent} {own later : List Axiom} {c : Call} {w : Of.World} → Answered m l own c (heard.Audited (Ok finding.Passes)) later → Audits c w → Obeys w (standing m own)
+passed_of : {m : Meaning} {l : Lent} {own later : List Axiom} {c : Call} {w : Of.World} → Answered m l own c (heard.Audited (Ok None)) later → Audits c w → Obeys w (standing m own)
 passed_of (audits_model words roles size r p) a_model = p.1
 passed_of (audits_entries classes links r p) entries = p.1
 
@@ -148,8 +147,8 @@ run_joined {m} {l} {own} {cs = cs} {hs = hs} p (one_more mid last c h ds ks q a)
     (subst (λ zs. Run m l own ((cs ++ ds) ++ c ∷ []) zs last) (append_assoc hs ks (h ∷ [])) (one_more mid last c h (cs ++ ds) (hs ++ ks) (run_joined p q) a))
 
 -- the law, of a book that is new
-pub lawful_new : (m n : Meaning) (l : Lent) (own later : List Axiom) (cs ds : List Call) (hs ks : List Heard) → n ≡ m → own ≡ [] → cs ≡ ds → hs ≡ ks → Run n l own cs hs later → Lawful m l [] ds ks
-lawful_new m n l own later cs ds hs ks p q r o x =
+pub lawful_new : {m n : Meaning} {l : Lent} {own later : List Axiom} {cs ds : List Call} {hs ks : List Heard} → n ≡ m → own ≡ [] → cs ≡ ds → hs ≡ ks → Run n l own cs hs later → Lawful m l [] ds ks
+lawful_new {m} {n} {l} {own} {later} {cs} {ds} {hs} {ks} p q r o x =
     run_lawful (subst (λ z. Run m l [] ds z later) o (subst (λ z. Run m l [] z hs later) r (subst (λ z. Run m l z cs hs later) q (subst (λ z. Run z l own cs hs later) p x))))
 
 -- an ask leaves the own list, so what its table shows is so of the book as it is afterwards

@@ -10,7 +10,7 @@ use Rattle.worlds.specs.Worlds.{InAll, InNone, Obeys}
 use Rattle.worlds.specs.Models.{model_world, model_checks}
 use Rattle.worlds.specs.Entries.{entry_world, entry_checks}
 use Rattle.worlds.specs.Audits.{in_world, Audited}
-use Rattle.worlds.specs.declared.audit.Finding.{Finding}
+use Rattle.worlds.specs.declared.audit.Breach.{Breach}
 use Rattle.worlds.specs.declared.link.Link.{Link}
 use Rattle.tables.specs.declared.records.ContextRecord.{ContextRecord}
 use Rattle.tables.specs.declared.records.ClauseRecord.{ClauseRecord}
@@ -53,9 +53,9 @@ pub data Answered (m : Meaning) (l : Lent) (own : List Axiom) : Call → Heard �
   adds : (a : Axiom) (r : Result (Unit {0}) Fault) (later : List Axiom) → PlainAdd m own a (told r) later → Answered m l own (call.Add a) (heard.Changed r) later
   amends : (i : ℕ) (a : Axiom) (r : Result (Unit {0}) Fault) (later : List Axiom) → PlainAmend m own i a (told r) later → Answered m l own (call.Amend i a) (heard.Changed r) later
   asks : (P N : ClassSet) (k j : ℕ) (words : Option ℕ) (r : Result Answer Fault) → PlainAsk (book_meaning m own) l P N k j words (told r) → Answered m l own (call.Ask P N k j words) (heard.Asked r) own
-  audits_model : (words : Bor (List ℕ)) (roles size : ℕ) (r : Result Finding Fault) → Answers (model_checks words.now roles size) 0 in_world (Audited (standing m own) (model_world words.now roles size)) (told r)
+  audits_model : (words : Bor (List ℕ)) (roles size : ℕ) (r : Result (Option Breach) Fault) → Answers (model_checks words.now roles size) 0 in_world (Audited (standing m own) (model_world words.now roles size)) (told r)
       → Answered m l own (call.AuditModel words roles size) (heard.Audited r) own
-  audits_entries : (classes : Bor (List ℕ)) (links : Bor (List Link)) (r : Result Finding Fault) → Answers (entry_checks classes.now links.now) 0 in_world (Audited (standing m own) (entry_world classes.now links.now)) (told r)
+  audits_entries : (classes : Bor (List ℕ)) (links : Bor (List Link)) (r : Result (Option Breach) Fault) → Answers (entry_checks classes.now links.now) 0 in_world (Audited (standing m own) (entry_world classes.now links.now)) (told r)
       → Answered m l own (call.AuditEntries classes links) (heard.Audited r) own
 
 -- every call of a list is answered so, one after the other: from one own list to another

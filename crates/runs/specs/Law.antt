@@ -1,5 +1,5 @@
 -- The law that holds for every list of calls on a book.
-use Rattle.std.specs.Prelude.{◌≡◌, ℕ, suc, ◌<◌, min, ◌↔◌, List, [], ◌∷◌, ◌++◌, length, take, Ok, Err, Option, Result, slice_index_or}
+use Rattle.std.specs.Prelude.{◌≡◌, ℕ, suc, ◌<◌, min, ◌↔◌, List, [], ◌∷◌, ◌++◌, length, take, None, Ok, Err, Option, Result, slice_index_or}
 use Rattle.terms.specs.Refusals.{told, refused, Passes}
 use Rattle.terms.specs.declared.class_set.ClassSet.{ClassSet}
 use Rattle.terms.specs.declared.axioms.Axiom.{Axiom}
@@ -9,7 +9,6 @@ use Rattle.worlds.specs.Worlds as Of
 use Rattle.worlds.specs.Worlds.{InAll, InNone}
 use Rattle.worlds.specs.Models.{model_world}
 use Rattle.worlds.specs.Entries.{entry_world}
-use Rattle.worlds.specs.declared.audit.Finding.TheVariants as finding
 use Rattle.reasoner.specs.Asks.{in_ask, goal_of, FitsInto, admit_checks, RoomOf, verdict_of, Says, Same}
 use Rattle.reasoner.specs.declared.answer.Answer.{Answer}
 use Rattle.reasoner.specs.declared.answer.Answer.TheVariants.{Nothing}
@@ -72,7 +71,7 @@ pub record Lawful (m : Meaning) (l : Lent) (own : List Axiom) (cs : List Call) (
   -- after a none, no audit passes a world with such an element while the same axioms stand
   pub none_stays : (i n : ℕ) (P N : ClassSet) (k j : ℕ) (words : Option ℕ) (counts : _) (c : Call) (w : Of.World)
       → At cs hs i (call.Ask P N k j words) (heard.Asked (Ok (Nothing counts))) → standing_at m own cs hs n ≡ standing_at m own cs hs i
-      → At cs hs n c (heard.Audited (Ok finding.Passes)) → Audits c w → (e : ℕ) → e < w.size → InAll w e P.bits → InNone w e N.bits → ⊥
+      → At cs hs n c (heard.Audited (Ok None)) → Audits c w → (e : ℕ) → e < w.size → InAll w e P.bits → InNone w e N.bits → ⊥
   -- an ask that nothing else refuses is refused as full exactly where its closure does not fit into its tables
   pub full : (i : ℕ) (P N : ClassSet) (k j : ℕ) (words : Option ℕ) (r : Result Answer Fault) → At cs hs i (call.Ask P N k j words) (heard.Asked r)
       → Passes (admit_checks m.classes P N (min k l.contexts) (min j l.clauses) (RoomOf m (min k l.contexts) (words_of l words)))

@@ -13,6 +13,8 @@ use Rattle.runs.specs.declared.calls.Call.{Call}
 use Rattle.runs.specs.declared.calls.Call.TheVariants as call
 use Rattle.runs.specs.declared.calls.Heard.{Heard}
 use Rattle.runs.specs.declared.calls.Heard.TheVariants as heard
+use Rattle.runs.specs.declared.run_tables.RunTables.{RunTables}
+use Rattle.runs.specs.Calls.{Lent, lent}
 use Rattle.runs.specs.Law.{own_after}
 
 -- what stands in the tables
@@ -23,6 +25,13 @@ pub record Slots : Type 0 where
 
 abbrev pub slots : List ContextRecord → List ClauseRecord → List ℕ → Slots
 slots xs ys zs = record { contexts = xs; clauses = ys; model = zs }
+
+-- how many slots there are of each, and what stands in them, in the tables as they are lent
+abbrev pub room_of : RunTables → Lent
+room_of t = lent t.contexts.now t.clauses.now t.model.now
+
+abbrev pub slots_of : RunTables → Slots
+slots_of t = slots t.contexts.now t.clauses.now t.model.now
 
 abbrev pub ModelLeft : Meaning → ClassSet → ClassSet → Option ℕ → Told Answer → List ℕ → List ℕ → Type 0
 ModelLeft b P N None t before after = after ≡ before
@@ -53,6 +62,14 @@ Untouched s u = u ≡ s
 -- anything may be written between calls
 abbrev pub Rewritten : Slots → Slots → Type 0
 Rewritten s u = (length u.contexts ≡ length s.contexts) × (length u.clauses ≡ length s.clauses) × (length u.model ≡ length s.model)
+
+-- the tables are the same as they were lent, whatever was written into them
+-- It compares before with after, which no type can keep.
+pub record SameTables (t u : RunTables) : Type 0 where
+  pub contexts : u.contexts.ghost_name ≡ t.contexts.ghost_name
+  pub clauses : u.clauses.ghost_name ≡ t.clauses.ghost_name
+  pub model : u.model.ghost_name ≡ t.model.ghost_name
+  pub sizes : Rewritten (slots_of t) (slots_of u)
 
 -- a run that found s in the tables left u, where before each call they were changed as Between allows
 pub data Left (Between : Slots → Slots → Type 0) (m : Meaning) (own : List Axiom) (s : Slots) : List Call → List Heard → Slots → Type 0 where

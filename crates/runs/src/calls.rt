@@ -1,7 +1,7 @@
 //! The calls of a run, and what is heard of each.
 use reasoner::Answer;
 use terms::{Axiom, ClassSet, Fault};
-use worlds::{Finding, Link};
+use worlds::{Breach, Link};
 
 /// A call on a book, with all that it brings.
 #[derive(Clone, Copy)]
@@ -41,12 +41,12 @@ pub enum Call<'a> {
 }
 
 /// What is heard of a call.
-#[derive(Clone, Copy)]
+#[derive(Clone, Copy, PartialEq, Eq, Debug)]
 pub enum Heard {
     /// Of an add, an amend or a strike.
     Changed { told: Result<(), Fault> },
     /// Of an ask.
     Asked { told: Result<Answer, Fault> },
     /// Of an audit; a world that cannot be opened is refused.
-    Audited { told: Result<Finding, Fault> },
+    Audited { told: Result<Option<Breach>, Fault> },
 }

@@ -1,11 +1,11 @@
 //! Runs of calls on a new book.
 ghost use Rattle.std.specs.Prelude.{◌≡◌, min, [], length, take, drop};
-ghost use Rattle.sources.specs.Meanings.{Limits};
 ghost use Rattle.runs.specs.Calls.{lent};
 ghost use Rattle.runs.specs.Law.{Lawful, LastShown};
 ghost use Rattle.runs.specs.Tables.{slots, Untouched, Left};
 
 use crate::calls::{Call, Heard};
+use crate::run_tables::RunTables;
 use crate::serving::replay;
 use book::Book;
 use sources::Source;
@@ -22,7 +22,6 @@ pub fn life<S: Source + Drop>(
     clauses: &mut [ClauseRecord],
     model: &mut [u64],
 ) -> usize
-    requires { Limits (S.Source.meaning source) }
     ensures made { result ≡ min (length calls.now) (length heard.old) }
     ensures rest { drop result heard.new ≡ drop result heard.old }
     ensures law { Lawful (S.Source.meaning source) (lent contexts.old clauses.old model.old) [] (take result calls.now) (take result heard.new) }
@@ -32,6 +31,11 @@ pub fn life<S: Source + Drop>(
 {
     let count = calls.len().min(heard.len());
     let mut book = Book::new(source);
-    replay(&mut book, &calls[..count], heard, contexts, clauses, model);
+    let mut tables = RunTables {
+        contexts,
+        clauses,
+        model,
+    };
+    replay(&mut book, &calls[..count], heard, &mut tables);
     count
 }

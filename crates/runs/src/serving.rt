@@ -1,22 +1,21 @@
 //! One call.
 ghost use Rattle.std.specs.Prelude.{◌≡◌, ◌≤◌, length, take, drop};
 ghost use Rattle.terms.specs.Refusals.{Answers, told};
-ghost use Rattle.sources.specs.Meanings.{Limits};
 ghost use Rattle.worlds.specs.Models.{model_world, model_checks};
 ghost use Rattle.worlds.specs.Entries.{entry_world, entry_checks};
 ghost use Rattle.worlds.specs.Audits.{in_world, Audited};
 ghost use Rattle.book.specs.Owned.{own_of, whole_of};
-ghost use Rattle.runs.specs.Calls.{lent, PlainAsk, Answered, Run};
-ghost use Rattle.runs.specs.Tables.{slots, AskLeaves, Leaves, Untouched, Left};
+ghost use Rattle.runs.specs.Calls.{PlainAsk, Answered, Run};
+ghost use Rattle.runs.specs.Tables.{room_of, slots_of, AskLeaves, Leaves, SameTables, Untouched, Left};
 
 use crate::calls::{Call, Heard};
+use crate::run_tables::RunTables;
 use book::Book;
 use reasoner::{Answer, ask, ask_model};
 use sources::Source;
-use tables::{ClauseRecord, ContextRecord};
 use terms::{ClassSet, Fault};
 use worlds::audit::audit;
-use worlds::{EntryTable, Finding, Link, ModelTable};
+use worlds::{Breach, EntryTable, Link, ModelTable};
 
 /// Audits the world that a model table shows.
 fn audit_model<S: Source>(
@@ -24,8 +23,7 @@ fn audit_model<S: Source>(
     words: &[u64],
     roles: u32,
     size: u32,
-) -> Result<Finding, Fault>
-    requires { Limits (S.Source.meaning source.now) }
+) -> Result<Option<Breach>, Fault>
     ensures { Answers (model_checks words.now roles size) 0 in_world (Audited (S.Source.meaning source.now).axioms (model_world words.now roles size)) (told result) }
 {
     let mut world = ModelTable::new();
@@ -38,8 +36,7 @@ fn audit_entries<'a, S: Source>(
     source: &S,
     classes: &'a [u64],
     links: &'a [Link],
-) -> Result<Finding, Fault>
-    requires { Limits (S.Source.meaning source.now) }
+) -> Result<Option<Breach>, Fault>
     ensures { Answers (entry_checks classes.now links.now) 0 in_world (Audited (S.Source.meaning source.now).axioms (entry_world classes.now links.now)) (told result) }
 {
     let mut world = EntryTable::new();
@@ -47,49 +44,47 @@ fn audit_entries<'a, S: Source>(
     Ok(audit(source, &world))
 }
 
-/// Asks with so many context slots, clause slots and, where it shows a world, words from the front of the tables.
+/// Asks, lending so many slots of each table and, where `words` is there, words of the model table.
+// What an ask brings is named here and in its call alone, and a struct of it would name each part twice more.
 fn ask_with<S: Source>(
     source: &S,
     held: ClassSet,
     denied: ClassSet,
-    few: usize,
-    some: usize,
+    context_slots: usize,
+    clause_slots: usize,
     words: Option<usize>,
-    contexts: &mut [ContextRecord],
-    clauses: &mut [ClauseRecord],
-    model: &mut [u64],
+    tables: &mut RunTables<'_>,
 ) -> Result<Answer, Fault>
-    requires { Limits (S.Source.meaning source.now) }
-    ensures plain { PlainAsk (S.Source.meaning source.now) (lent contexts.old clauses.old model.old) held denied few some words (told result) }
-    ensures tables { AskLeaves (S.Source.meaning source.now) held denied few some words (told result)
-        (slots contexts.old clauses.old model.old) (slots contexts.new clauses.new model.new) }
+    ensures plain { PlainAsk (S.Source.meaning source.now) (room_of tables.old) held denied context_slots clause_slots words (told result) }
+    ensures tables { AskLeaves (S.Source.meaning source.now) held denied context_slots clause_slots words (told result) (slots_of tables.old) (slots_of tables.new) }
+    ensures same { SameTables tables.old tables.new }
 {
-    let few = few.min(contexts.len());
-    let some = some.min(clauses.len());
-    let contexts = &mut contexts[..few];
-    let clauses = &mut clauses[..some];
+    let context_slots = context_slots.min(tables.contexts.len());
+    let clause_slots = clause_slots.min(tables.clauses.len());
+    let contexts = &mut tables.contexts[..context_slots];
+    let clauses = &mut tables.clauses[..clause_slots];
     match words {
         None => ask(source, held, denied, contexts, clauses),
         Some(words) => {
-            let words = words.min(model.len());
-            ask_model(source, held, denied, contexts, clauses, &mut model[..words])
+            let words = words.min(tables.model.len());
+            ask_model(
+                source,
+                held,
+                denied,
+                contexts,
+                clauses,
+                &mut tables.model[..words],
+            )
         }
     }
 }
 
 /// Makes one call on the book.
-pub fn serve<S: Source>(
-    book: &mut Book<S>,
-    call: Call<'_>,
-    contexts: &mut [ContextRecord],
-    clauses: &mut [ClauseRecord],
-    model: &mut [u64],
-) -> Heard
-    requires { Limits (whole_of S.Source.meaning book.old) }
-    ensures plain { Answered (S.Source.meaning book.old.source) (lent contexts.old clauses.old model.old) (own_of book.old) call.entry result (own_of book.new) }
-    ensures tables { Leaves (whole_of S.Source.meaning book.old) call.entry result (slots contexts.old clauses.old model.old) (slots contexts.new clauses.new model.new) }
+pub fn serve<S: Source>(book: &mut Book<S>, call: Call<'_>, tables: &mut RunTables<'_>) -> Heard
+    ensures plain { Answered (S.Source.meaning book.old.source) (room_of tables.old) (own_of book.old) call.entry result (own_of book.new) }
+    ensures tables { Leaves (whole_of S.Source.meaning book.old) call.entry result (slots_of tables.old) (slots_of tables.new) }
+    ensures same { SameTables tables.old tables.new }
     ensures over { book.new.source ≡ book.old.source }
-    ensures keeps { Limits (whole_of S.Source.meaning book.new) }
 {
     match call {
         Call::Strike { number } => Heard::Changed {
@@ -104,13 +99,11 @@ pub fn serve<S: Source>(
         Call::Ask {
             held,
             denied,
-            contexts: few,
-            clauses: some,
+            contexts,
+            clauses,
             words,
         } => Heard::Asked {
-            told: ask_with(
-                book, held, denied, few, some, words, contexts, clauses, model,
-            ),
+            told: ask_with(book, held, denied, contexts, clauses, words, tables),
         },
         Call::AuditModel { words, roles, size } => Heard::Audited {
             told: audit_model(book, words, roles, size),
@@ -126,21 +119,19 @@ pub fn replay<S: Source>(
     book: &mut Book<S>,
     calls: &[Call<'_>],
     heard: &mut [Heard],
-    contexts: &mut [ContextRecord],
-    clauses: &mut [ClauseRecord],
-    model: &mut [u64],
+    tables: &mut RunTables<'_>,
 )
-    requires limits { Limits (whole_of S.Source.meaning book.old) }
-    requires room { length calls.now ≤ length heard.old }
-    ensures run { Run (S.Source.meaning book.old.source) (lent contexts.old clauses.old model.old) (own_of book.old)
+    requires { length calls.now ≤ length heard.old }
+    ensures run { Run (S.Source.meaning book.old.source) (room_of tables.old) (own_of book.old)
         calls.now (take (length calls.now) heard.new) (own_of book.new) }
     ensures rest { drop (length calls.now) heard.new ≡ drop (length calls.now) heard.old }
-    ensures tables { Left Untouched (S.Source.meaning book.old.source) (own_of book.old) (slots contexts.old clauses.old model.old)
-        calls.now (take (length calls.now) heard.new) (slots contexts.new clauses.new model.new) }
+    ensures tables { Left Untouched (S.Source.meaning book.old.source) (own_of book.old) (slots_of tables.old)
+        calls.now (take (length calls.now) heard.new) (slots_of tables.new) }
+    ensures same { SameTables tables.old tables.new }
     ensures over { book.new.source ≡ book.old.source }
-    ensures keeps { Limits (whole_of S.Source.meaning book.new) }
 {
-    for i in 0..calls.len() {
-        heard[i] = serve(book, calls[i], contexts, clauses, model);
+    // What is heard is written by number, since a proof knows only the length of a slice that a `zip` with `iter_mut` wrote.
+    for (i, call) in calls.iter().enumerate() {
+        heard[i] = serve(book, *call, tables);
     }
 }

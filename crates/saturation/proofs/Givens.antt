@@ -12,10 +12,12 @@ use Rattle.tables.specs.Tables.{Tables, Member, clause_of, Cites, Good}
 use Rattle.tables.specs.Adding.{Grows, Adds, Stuck, Below}
 use Rattle.tables.specs.declared.records.ClauseRecord.{ClauseRecord}
 use Rattle.tables.proofs.Slots.{holds_get_or, holds_back, among_upto, among_kept}
-use Rattle.tables.proofs.Meanings.{clause_of_kept}
-use Rattle.tables.proofs.Additions.{adds_none, adds_as, stuck_as, below_swap}
-use Rattle.saturation.specs.Choices.{lone, Listed, Given, given_record}
-use Rattle.saturation.specs.Conclusions.{Headed, ByAxiom, OfOne, Either}
+use Rattle.tables.proofs.Meanings.{clause_of_kept, cites_upto}
+use Rattle.tables.proofs.Additions.{adds_none, adds_as, stuck_as, grows_then}
+use Rattle.tables.specs.Records.{lone, Tops}
+use Rattle.saturation.specs.Choices.{Listed, Given, given_record}
+use Rattle.saturation.specs.Conclusions.{Headed, Brought, DeniedHead, ByAxiom, OfOne, Either}
+use Rattle.saturation.proofs.Tops.{headed_of}
 use Rattle.saturation.proofs.Levels.{kept_back, listed_kept}
 
 -- ---- tables that grow
@@ -36,8 +38,15 @@ given_on {s} {u} {slot} {c} {Ts} g w v =
       listed = subst (λ (x : ClauseRecord). Listed u.clauses (slot + 1) x.context Ts) (sym e) (listed_kept w.clauses.kept (omega (arith, v.used)) v.listed);
     }
 
+pub given_headed : {s : Tables} {slot top : ℕ} {c : Clause} {Ts : List ℕ} → Given s slot c Ts → Tops (given_record s.clauses slot) top → Headed c top
+given_headed {s} {slot} {top} v t = subst (λ x. Headed x top) v.means (headed_of (given_record s.clauses slot) t s.contexts)
+
+-- the record in the slot keeps its head
+pub tops_on : {s u : Tables} {slot top : ℕ} → Grows s u → slot < s.used.clauses → Tops (given_record s.clauses slot) top → Tops (given_record u.clauses slot) top
+tops_on {slot = slot} {top = top} w l t = subst (λ (x : ClauseRecord). Tops x top) (sym (given_same w slot l)) t
+
 -- what a slot up to a used one holds now, it held then
-pub other_holds : {s u : Tables} {slot j : ℕ} → Good s → Grows s u → slot < s.used.clauses → j < slot + 1 → Holds s.clauses j (given_record u.clauses j)
+other_holds : {s u : Tables} {slot j : ℕ} → Good s → Grows s u → slot < s.used.clauses → j < slot + 1 → Holds s.clauses j (given_record u.clauses j)
 other_holds {s} {u} {slot} {j} g w l b = holds_back w.clauses.kept (omega arith) (holds_get_or u.clauses j _ (omega (arith, g.clauses_fit, w.clauses.size)))
 
 pub other_among : {s u : Tables} {slot j : ℕ} → Good s → Grows s u → slot < s.used.clauses → j < slot + 1 → Among s.clauses (slot + 1) (given_record u.clauses j)
@@ -49,6 +58,37 @@ among_then g w l a = among_kept (kept_back w.clauses.kept) (omega arith) a
 -- a record that cites used slots means the same in tables that have grown
 pub means_on : {s u : Tables} {c : Clause} → Grows s u → (x : ClauseRecord) → Cites s.used.contexts x → clause_of s.contexts x ≡ c → clause_of u.contexts x ≡ c
 means_on w x c e = clause_of_kept w.contexts.kept x c ∙ e
+
+-- ---- a clause that is given, and another
+
+-- where the loop of a turn stands: good tables s have grown to u, and the given record x is met by the one in slot j, which is not past the given one's
+pub record Facing (s u : Tables) (x : ClauseRecord) (slot j : ℕ) : Type 0 where
+  pub good : Good s
+  pub grows : Grows s u
+  pub used : slot < s.used.clauses
+  pub below : j < slot + 1
+  pub given : Cites s.used.contexts x
+  pub other : Cites s.used.contexts (given_record u.clauses j)
+
+module _ {s u : Tables} {slot j : ℕ} {R : ClauseRecord → Type 0} where
+  pub facing : (x : ClauseRecord) → Good s → Grows s u → slot < s.used.clauses → Cites s.used.contexts x
+      → ((y : ClauseRecord) → Among s.clauses (slot + 1) y → R y × Cites s.used.contexts y) → j < slot + 1 → Facing s u x slot j
+  facing x g w l given others b = record { good = g; grows = w; used = l; below = b; given = given; other = (others (given_record u.clauses j) (other_among g w l b)).1 }
+
+module _ {s u : Tables} {x : ClauseRecord} {slot j : ℕ} (f : Facing s u x slot j) where
+  pub other_held : Holds s.clauses j (given_record u.clauses j)
+  other_held = other_holds f.good f.grows f.used f.below
+
+  -- and when the tables have grown on
+  module _ {v : Tables} (w : Grows u v) where
+    pub both_cite : Cites v.used.contexts x × Cites v.used.contexts (given_record u.clauses j)
+    both_cite = let z = grows_then f.grows w in (cites_upto z.contexts.more x f.given, cites_upto z.contexts.more (given_record u.clauses j) f.other)
+
+    pub given_means : {c : Clause} → clause_of s.contexts x ≡ c → clause_of v.contexts x ≡ c
+    given_means is = means_on (grows_then f.grows w) x f.given is
+
+    pub other_means : clause_of v.contexts (given_record u.clauses j) ≡ clause_of s.contexts (given_record u.clauses j)
+    other_means = means_on (grows_then f.grows w) (given_record u.clauses j) f.other refl
 
 -- ---- the premises can be listed
 
@@ -113,6 +153,10 @@ by_headed (ExistsLower q a b) Ts c d v = absurd v
 by_headed (Forall a q b) Ts c d v = absurd v
 by_headed (RoleInclusion p q) Ts c d v = absurd v
 
+-- what the denied head gives, said of the clause that the record means
+pub denied_one : {axs : List Axiom} {Ts : List ℕ} {c d : Clause} → d ≡ c → (m : Member) → Brought (DeniedHead d) m → OfOne axs Ts c m
+denied_one is m b = inl (subst (λ x. Brought (DeniedHead x) m) is b)
+
 pub none_headless : {s : Tables} {axs : List Axiom} {Ts : List ℕ} {c : Clause} → Good s → ((a : ℕ) → Headed c a → ⊥) → Adds (OfOne axs Ts c) s s
 none_headless {axs = axs} {Ts = Ts} {c = c} good none = adds_none good (λ m o. ⊎_elim
     (λ b. none b.follows.class b.follows.headed)
@@ -125,9 +169,7 @@ module _ {s u : Tables} {slot : ℕ} (g : Good s) (w : Grows s u) (l : slot < s.
   either_now : (m : Member) → Below s.clauses (slot + 1) (λ y. Either axs c (clause_of s.contexts y)) m → Below u.clauses (slot + 1) (λ y. Either axs c (clause_of u.contexts y)) m
   either_now m b =
       let same = clause_of_kept w.contexts.kept b.by (g.cited b.by (among_upto (omega arith) b.among)) in
-      below_swap {Q = λ y m'. y ≡ b.by × Either axs c (clause_of s.contexts y) m'} w.clauses.kept (omega arith) (omega arith)
-      (λ y q. subst (λ (d : Clause). Either axs c d m) (sym (ap (clause_of u.contexts) q.0 ∙ same ∙ ap (clause_of s.contexts) (sym q.0))) q.1)
-      (record { by = b.by; among = b.among; gives = (refl, b.gives) })
+      record { by = b.by; among = among_kept w.clauses.kept (omega arith) b.among; gives = subst (λ (d : Clause). Either axs c d m) (sym same) b.gives }
 
   either_then : (m : Member) → Below u.clauses (slot + 1) (λ y. Either axs c (clause_of u.contexts y)) m → Below s.clauses (slot + 1) (λ y. Either axs c (clause_of s.contexts y)) m
   either_then m b =

@@ -9,15 +9,15 @@ use Rattle.terms.proofs.Masks.{zero_none}
 use Rattle.closure.specs.Closures.{plain, toward, Clause, clause, Context}
 use Rattle.tables.specs.Entering.{Holds, Among}
 use Rattle.tables.specs.Tables.{Tables, tables, Member, a_clause, context_in, part_of, clause_of, PartCites, Cites, Good}
-use Rattle.tables.specs.Adding.{Adds, Enters, Below}
+use Rattle.tables.specs.Adding.{Adds, Ends, Below}
 use Rattle.tables.specs.declared.records.ContextRecord.{ContextRecord}
 use Rattle.tables.specs.declared.records.RolePart.{RolePart}
 use Rattle.tables.specs.declared.records.ClauseRecord.{ClauseRecord}
 use Rattle.tables.specs.declared.entering.Full.{Full}
 use Rattle.tables.specs.declared.members.Counts.{Counts}
 use Rattle.tables.proofs.Meanings.{context_in_one}
-use Rattle.tables.proofs.Additions.{adds_none, enters_as}
-use Rattle.saturation.specs.Choices.{lone}
+use Rattle.tables.proofs.Additions.{adds_none, ends_as}
+use Rattle.tables.specs.Records.{lone}
 use Rattle.saturation.specs.Conclusions.{Headed, Brought, PairBy, OfPair, impossible, by_axiom, Shares}
 use Rattle.saturation.proofs.Tops.{plain_none}
 use Rattle.saturation.proofs.Bringing.{enters_plain}
@@ -50,9 +50,9 @@ by_head axs (Forall a q b) t e d w = (a, w.headed)
 by_head axs (RoleInclusion p q) t e d w = absurd w
 
 -- it is not empty, so only axioms give something
-pub headed_enters : (axs : List Axiom) (t e : Clause) (a : ℕ) → Headed e a → (s : Tables) (u : Counts → Tables) (r : Result Counts Full)
-    → Enters (Below axs (length axs) (λ x. Brought (PairBy axs x t e))) s u r → Enters (Brought (OfPair axs t e)) s u r
-headed_enters axs t e a h s u r p = enters_as s u r p to from
+pub headed_enters : (axs : List Axiom) (t e : Clause) (a : ℕ) → Headed e a → {X : Type 0} (s u : Tables) (r : Result X Full)
+    → Ends (Below axs (length axs) (λ x. Brought (PairBy axs x t e))) s u r → Ends (Brought (OfPair axs t e)) s u r
+headed_enters axs t e a h s u r p = ends_as s u r p to from
   where
     axiom_of : (d : Clause) → OfPair axs t e d → (x : Axiom) × Memᴰ x axs × PairBy axs x t e d
     axiom_of d (impossible w) = absurd (zero_none a (subst (λ (c : Clause). Has c.classes a) w.empty h.head.0))
@@ -87,10 +87,6 @@ elsewhere_none {axs} {xs} {ys} {n} x y part {t} {e} good is cites there first se
   where
     slot : (k : ℕ) → k < n.contexts → e.of ≡ context_in xs k → y.context ≡ k
     slot k l q = context_in_one good.contexts_fit good.contexts_apart y.context k there l (ap (λ (c : Clause). c.of) second ∙ q)
-
-pub none_elsewhere : {axs : List Axiom} {xs : List ContextRecord} {ys : List ClauseRecord} {n : Counts} (x y : ClauseRecord) (part : RolePart) {t e : Clause} → Good (tables xs ys n) → x.part ≡ Some part → Cites n.contexts x → y.context < n.contexts
-    → clause_of xs x ≡ t → clause_of xs y ≡ e → (y.context ≡ part.context → ⊥) → (y.context ≡ x.context → ⊥) → Adds (Brought (OfPair axs t e)) (tables xs ys n) (tables xs ys n)
-none_elsewhere x y part good is cites there first second far other = adds_none good (elsewhere_none x y part good is cites there first second far other)
 
 -- a clause without role part gives nothing in the first place
 first_part : (axs : List Axiom) (x : Axiom) (t e d : Clause) → PairBy axs x t e d → t.part ≡ plain → ⊥
@@ -147,8 +143,8 @@ module _ {xs : List ContextRecord} {ys : List ClauseRecord} {n : Counts} {x y : 
       ne (plain_none xs y.part (ap (λ (c : Clause). c.part) i), ap (λ (c : Clause). c.classes) i))
 
   -- they pass, and the clause without its role part was entered
-  pub ending_enters : {z : ClauseRecord} (u : Counts → Tables) (r : Result Counts Full) → y.context ≡ part.context → (y.part ≡ None) × (y.classes.bits ≡ zero) → z ≡ lone x.context x.classes.bits
-      → Enters (λ m. m ≡ a_clause (clause_of xs z)) (tables xs ys n) u r → Enters (Brought (OfPair axs t e)) (tables xs ys n) u r
+  pub ending_enters : {z : ClauseRecord} {X : Type 0} (u : Tables) (r : Result X Full) → y.context ≡ part.context → (y.part ≡ None) × (y.classes.bits ≡ zero) → z ≡ lone x.context x.classes.bits
+      → Ends (λ m. m ≡ a_clause (clause_of xs z)) (tables xs ys n) u r → Ends (Brought (OfPair axs t e)) (tables xs ys n) u r
   ending_enters {z} u r same empty is p =
       enters_plain (clause t.of t.classes plain) (λ c v. (only_impossible c v).1) (tables xs ys n) u r
       (ap (λ (c : Clause). clause c.of c.classes plain) (sym w.first))
@@ -159,4 +155,4 @@ module _ {xs : List ContextRecord} {ys : List ClauseRecord} {n : Counts} {x y : 
         empty = sym w.second ∙ (let o = ap (context_in xs) same in let l = ap (part_of xs) empty.0 in let z = empty.1 in λ j. clause (o j) (z j) (l j));
         is = refl;
       }))
-      (enters_as (tables xs ys n) u r p (λ m q. q ∙ ap (λ c. a_clause (clause_of xs c)) (sym is)) (λ m q. q ∙ ap (λ c. a_clause (clause_of xs c)) is))
+      (ends_as (tables xs ys n) u r p (λ m q. q ∙ ap (λ c. a_clause (clause_of xs c)) (sym is)) (λ m q. q ∙ ap (λ c. a_clause (clause_of xs c)) is))

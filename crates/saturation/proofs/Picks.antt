@@ -10,7 +10,8 @@ use Rattle.tables.specs.Tables.{Member, a_clause}
 use Rattle.tables.specs.Adding.{Below}
 use Rattle.tables.specs.declared.records.ClauseRecord.{ClauseRecord}
 use Rattle.saturation.specs.Conclusions.{PartBrings, Brings, Brought, Chooses}
-use Rattle.saturation.specs.Choices.{lone, Listed, Premise, Picks, Pick}
+use Rattle.tables.specs.Records.{lone}
+use Rattle.saturation.specs.Choices.{Listed, Premise, Picks, Pick}
 
 pub lone_same : {h a D c : ℕ} {y : ClauseRecord} → Premise h a D c y → y ≡ lone h y.classes.bits
 lone_same {y = y} p = let e = p.within in let l = p.lonely in λ i. record { context = e i; classes = y.classes; part = l i }

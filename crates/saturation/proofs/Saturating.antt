@@ -15,17 +15,17 @@ use Rattle.closure.specs.Rules.{Rules}
 use Rattle.closure.proofs.Leastness.{least_contexts, least_clauses}
 use Rattle.closure.proofs.Bounds.{ContextBelow, PartBelow, clauses_below, formed_declared}
 use Rattle.tables.specs.Entering.{Holds, Among, Entered}
-use Rattle.tables.specs.Tables.{Tables, tables, Member, a_context, a_clause, blank, context_in, context_of, part_of, clause_of, PartCites, Cites, Stands, InClosure, In, Good}
+use Rattle.tables.specs.Tables.{Tables, Member, a_context, a_clause, blank, context_in, context_of, part_of, clause_of, PartCites, Cites, Stands, InClosure, In, Good}
 use Rattle.tables.specs.Adding.{Grows, Adds, Stuck}
 use Rattle.tables.specs.declared.records.ContextRecord.{ContextRecord}
 use Rattle.tables.specs.declared.records.RolePart.{RolePart}
 use Rattle.tables.specs.declared.records.ClauseRecord.{ClauseRecord}
-use Rattle.tables.specs.declared.members.Counts.{Counts}
 use Rattle.tables.proofs.Slots.{at_or_below, holds_get_or, among_upto}
 use Rattle.tables.proofs.Meanings.{context_in_one, clause_of_kept}
-use Rattle.tables.proofs.Additions.{grows_refl, grows_then, in_on, in_context_slot, adds_then, stuck_then}
-use Rattle.saturation.specs.Choices.{lone, Given, given_record}
-use Rattle.saturation.specs.Conclusions.{Brings, Brought, OfContext, held_class, no_lower, DeniedHead, Succeeds, ByAxiom, OfPair, impossible, by_axiom, OfTurn, FromSlots, RolesBelow}
+use Rattle.tables.proofs.Additions.{none_in, grows_refl, grows_then, in_on, in_context_slot, adds_then, stuck_then}
+use Rattle.tables.specs.Records.{lone}
+use Rattle.saturation.specs.Choices.{Given, given_record}
+use Rattle.saturation.specs.Conclusions.{Brought, OfContext, held_class, no_lower, DeniedHead, Succeeds, ByAxiom, OfPair, impossible, by_axiom, OfTurn, FromSlots, RolesBelow}
 use Rattle.saturation.proofs.Tops.{plain_none}
 use Rattle.saturation.proofs.Givens.{given_cited}
 use Rattle.saturation.proofs.Partners.{mem_among, among_mem}
@@ -278,7 +278,7 @@ module _ (axs : List Axiom) {G : Context} {s u : Tables} (none : (m : Member) �
   pub start_slots_in : (m : Member) → FromSlots axs u.contexts 0 u.used.contexts m → InClosure rising axs G m
   start_slots_in m b = context_in_lem axs G (context_in u.contexts b.slot) (start_in (a_context (context_in u.contexts b.slot)) (in_context_slot first.grows.good b.slot b.high)) m b.gives
 
-  pub sofar_start : {z : Tables} → Adds (FromSlots axs u.contexts 0 u.used.contexts) u z → z.contexts ≡ u.contexts → z.used.contexts ≡ u.used.contexts → Sofar axs G s z 0
+  sofar_start : {z : Tables} → Adds (FromSlots axs u.contexts 0 u.used.contexts) u z → z.contexts ≡ u.contexts → z.used.contexts ≡ u.used.contexts → Sofar axs G s z 0
   sofar_start {z} q same as_many = record {
     grows = grows_then first.grows q.grows;
     goal = in_on first.grows.good q.grows (a_context G) (first.all (a_context G) refl);
@@ -296,32 +296,21 @@ module _ (axs : List Axiom) {G : Context} {s u : Tables} (none : (m : Member) �
   }
 
 -- the first context stands in the first slot
-pub goal_slot : {xs us : List ContextRecord} (x : ContextRecord) {slot used : ℕ} → Entered xs 0 x us slot used → context_in us 0 ≡ context_of x
-goal_slot {us = us} x e =
-    ⊎_elim (λ f. absurd (let n = f.no_more in let b = e.below in omega arith)) (λ p. ap context_of ((subst (λ k. Holds us k x) p.next e.there).is blank)) e.way
+goal_slot : {xs us : List ContextRecord} (x : ContextRecord) {slot n used : ℕ} → n ≡ 0 → Entered xs n x us slot used → context_in us 0 ≡ context_of x
+goal_slot {us = us} x z e =
+    ⊎_elim (λ f. absurd (let n = f.no_more in let b = e.below in omega (arith, z))) (λ p. ap context_of ((subst (λ k. Holds us k x) (p.next ∙ z) e.there).is blank)) e.way
 
--- ---- contexts give no contexts
+-- the goal stands in the first slot of s, where nothing was; and what each context gives by itself is in z
+pub record Begun (axs : List Axiom) (x : ContextRecord) (s z : Tables) : Type 0 where
+  pub start : Sofar axs (context_of x) s z 0
+  pub at : context_in z.contexts 0 ≡ context_of x
 
-no_context : {axs : List Axiom} {H K : Context} (d : Clause) → OfContext axs H d → Brings d (a_context K) → ⊥
-no_context d (held_class a h) w = ⊎_elim (λ z. z) (λ e. let z : ◌≡◌ {A = ℕ} 0 1 = cc in omega arith) w
-no_context d (no_lower L M i z) w = ⊎_elim (λ v. v) (λ e. let z : ◌≡◌ {A = ℕ} 0 1 = cc in omega arith) w
-
-pub slots_no_context : {axs : List Axiom} {xs : List ContextRecord} {from upto : ℕ} (K : Context) → FromSlots axs xs from upto (a_context K) → ⊥
-slots_no_context K f = no_context f.gives.by f.gives.follows f.gives.brings
-
--- where no context was added there are as many
-pub as_many_contexts : {C : Member → Type 0} {xs : List ContextRecord} {ys zs : List ClauseRecord} {n k : Counts} → Adds C (tables xs ys n) (tables xs zs k) → ((K : Context) → C (a_context K) → ⊥) → k.contexts ≡ n.contexts
-as_many_contexts {xs = xs} {n = n} {k = k} p none = ⊎_elim (λ l. absurd (again l)) (λ g. let m = p.grows.contexts.more in omega arith) (cases_lt n.contexts k.contexts)
-  where
-    again : n.contexts < k.contexts → ⊥
-    again l = ⊎_elim
-        (λ a.
-        let e = ap context_of (a.among.holds.is blank) ∙ a.means in
-        let b = a.among.below in
-        let same = context_in_one p.grows.good.contexts_fit p.grows.good.contexts_apart a.among.slot n.contexts (omega arith) l e in
-        omega arith)
-        (none (context_in xs n.contexts))
-        (p.only (a_context (context_in xs n.contexts)) (in_context_slot p.grows.good n.contexts l))
+pub begun : (axs : List Axiom) (x : ContextRecord) {s u z : Tables} {slot : ℕ} → (s.used.contexts ≡ 0) × (s.used.clauses ≡ 0) → Entered s.contexts s.used.contexts x u.contexts slot u.used.contexts
+    → Adds (λ m. m ≡ a_context (context_of x)) s u → Adds (FromSlots axs u.contexts 0 u.used.contexts) u z → z.contexts ≡ u.contexts → z.used.contexts ≡ u.used.contexts → Begun axs x s z
+begun axs x {s = s} empty e first q same as_many = record {
+  start = sofar_start axs (none_in s empty.0 empty.1) first q same as_many;
+  at = ap (λ xs. context_in xs 0) same ∙ goal_slot x empty.0 e;
+}
 
 -- ---- a table is full
 

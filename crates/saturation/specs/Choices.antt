@@ -2,15 +2,11 @@
 use Rattle.std.specs.Prelude.{◌≡◌, ℕ, ◌+◌, ◌<◌, List, None, slice_index_or}
 use mathlib.Core.List.{Memᴰ}
 use Rattle.terms.specs.Sets.{join, without}
-use Rattle.terms.specs.Axioms.{set_of}
 use Rattle.closure.specs.Closures.{Context, plain, Clause, clause, Head, rising, Chosen}
 use Rattle.tables.specs.Entering.{Among}
+use Rattle.tables.specs.Records.{lone}
 use Rattle.tables.specs.Tables.{Tables, Member, a_clause, clause_of}
 use Rattle.tables.specs.declared.records.ClauseRecord.{ClauseRecord}
-
--- the record of a clause of the context in slot h, without role part
-abbrev pub lone : ℕ → ℕ → ClauseRecord
-lone h D = record { context = h; classes = set_of D; part = None }
 
 -- among the first n clauses, those of the context in slot h without role part have their classes in Ts, and nothing else is there
 pub record Listed (clauses : List ClauseRecord) (n h : ℕ) (Ts : List ℕ) : Type 0 where

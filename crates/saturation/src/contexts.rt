@@ -1,40 +1,28 @@
 //! What a context gives by itself.
-ghost use Rattle.std.specs.Prelude.{◌≡◌, ◌<◌, ◌≤◌, length, MatchOption};
+ghost use Rattle.std.specs.Prelude.{◌≡◌, ◌<◌, length, MatchOption};
 ghost use Rattle.terms.specs.Axioms.{set_of};
 ghost use Rattle.terms.specs.declared.axioms.Axiom.TheVariants.{Inclusion};
-ghost use Rattle.tables.specs.Tables.{tables, context_in, Good};
-ghost use Rattle.tables.specs.Adding.{Enters, Below};
+ghost use Rattle.tables.specs.Tables.{context_in};
+ghost use Rattle.tables.specs.Adding.{Ends, Below};
+ghost use Rattle.tables.specs.Lent.{lent, SameLent, ContextsKept};
 ghost use Rattle.saturation.specs.Conclusions.{Brought, OfContext, Held, NoLower, Unconditional};
 
-use crate::choices::lone;
-use tables::{ClauseRecord, ContextRecord, Counts, Full, enter_clause};
+use tables::{ClauseRecord, Full, LentTables};
 use terms::{Axiom, ClassSet};
 
 /// Enters a clause for each class that the context in slot `slot` holds.
-fn hold(
-    contexts: &[ContextRecord],
-    clauses: &mut [ClauseRecord],
-    counts: Counts,
-    slot: usize,
-) -> Result<Counts, Full>
-    requires good { Good (tables contexts.now clauses.old counts) }
-    requires few { length contexts.now ≤ 256 }
-    requires used { slot < counts.contexts }
-    ensures { Enters (Held (context_in contexts.now slot)) (tables contexts.now clauses.old counts) (tables contexts.now clauses.new) result }
+// A slot is used or not only as to tables that grow, so the bound on it stands in each contract, here as elsewhere.
+fn hold(tables: &mut LentTables<'_>, slot: usize) -> Result<(), Full>
+    requires { slot < tables.old.counts.contexts }
+    ensures same { SameLent tables.old tables.new }
+    ensures kept { ContextsKept tables.old tables.new }
+    ensures holds { Ends (Held (context_in tables.old.contexts.now slot)) (lent tables.old) (lent tables.new) result }
 {
-    let held = contexts[slot].held;
-    let top = match held.highest() {
-        Some(top) => top,
-        None => return Ok(counts),
-    };
-    let mut counts = counts;
-    for class in 0..top + 1 {
-        if !held.contains(class) {
-            continue;
-        }
-        counts = enter_clause(clauses, counts, lone(slot as u16, ClassSet::single(class)))?;
+    let held = tables.contexts[slot].held;
+    for class in held.classes() {
+        tables.enter_clause(ClauseRecord::lone(slot as u16, ClassSet::single(class)))?;
     }
-    Ok(counts)
+    Ok(())
 }
 
 /// The upper classes of an inclusion with no lower ones.
@@ -42,61 +30,34 @@ fn unconditional(axiom: Axiom) -> Option<ClassSet>
     ensures { MatchOption result (Unconditional «axiom» → ⊥) (λ upper. «axiom» ≡ Inclusion (set_of 0) upper) }
 {
     match axiom {
-        Axiom::Inclusion { lower, upper } => {
-            if lower.is_empty() {
-                return Some(upper);
-            }
-            None
-        }
-        Axiom::Exists { .. } => None,
-        Axiom::ExistsLower { .. } => None,
-        Axiom::Forall { .. } => None,
-        Axiom::RoleInclusion { .. } => None,
+        Axiom::Inclusion { lower, upper } if lower.is_empty() => Some(upper),
+        _ => None,
     }
 }
 
 /// Enters the upper classes of each inclusion with no lower ones, for the context in slot `slot`.
-fn grant(
-    axioms: &[Axiom],
-    contexts: &[ContextRecord],
-    clauses: &mut [ClauseRecord],
-    counts: Counts,
-    slot: usize,
-) -> Result<Counts, Full>
-    requires good { Good (tables contexts.now clauses.old counts) }
-    requires few { length contexts.now ≤ 256 }
-    requires used { slot < counts.contexts }
-    ensures { Enters (Below axioms.now (length axioms.now) (NoLower (context_in contexts.now slot)))
-        (tables contexts.now clauses.old counts) (tables contexts.now clauses.new) result }
+fn grant(axioms: &[Axiom], tables: &mut LentTables<'_>, slot: usize) -> Result<(), Full>
+    requires { slot < tables.old.counts.contexts }
+    ensures same { SameLent tables.old tables.new }
+    ensures kept { ContextsKept tables.old tables.new }
+    ensures grants { Ends (Below axioms.now (length axioms.now) (NoLower (context_in tables.old.contexts.now slot))) (lent tables.old) (lent tables.new) result }
 {
-    let mut counts = counts;
-    for k in 0..axioms.len() {
-        let upper = match unconditional(axioms[k]) {
-            Some(upper) => upper,
-            None => continue,
+    for axiom in axioms {
+        let Some(upper) = unconditional(*axiom) else {
+            continue;
         };
-        counts = enter_clause(clauses, counts, lone(slot as u16, upper))?;
+        tables.enter_clause(ClauseRecord::lone(slot as u16, upper))?;
     }
-    Ok(counts)
+    Ok(())
 }
 
 /// Enters what the context in slot `slot` gives by itself.
-pub(crate) fn unfold(
-    axioms: &[Axiom],
-    contexts: &[ContextRecord],
-    clauses: &mut [ClauseRecord],
-    counts: Counts,
-    slot: usize,
-) -> Result<Counts, Full>
-    requires good { Good (tables contexts.now clauses.old counts) }
-    requires few { length contexts.now ≤ 256 }
-    requires used { slot < counts.contexts }
-    ensures { Enters (Brought (OfContext axioms.now (context_in contexts.now slot)))
-        (tables contexts.now clauses.old counts) (tables contexts.now clauses.new) result }
+pub(crate) fn unfold(axioms: &[Axiom], tables: &mut LentTables<'_>, slot: usize) -> Result<(), Full>
+    requires { slot < tables.old.counts.contexts }
+    ensures same { SameLent tables.old tables.new }
+    ensures kept { ContextsKept tables.old tables.new }
+    ensures unfolds { Ends (Brought (OfContext axioms.now (context_in tables.old.contexts.now slot))) (lent tables.old) (lent tables.new) result }
 {
-    let counts = match hold(contexts, clauses, counts, slot) {
-        Ok(counts) => counts,
-        Err(full) => return Err(full),
-    };
-    grant(axioms, contexts, clauses, counts, slot)
+    hold(tables, slot)?;
+    grant(axioms, tables, slot)
 }

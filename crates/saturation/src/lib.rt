@@ -7,9 +7,9 @@
 
 mod choices;
 mod contexts;
-mod heads;
 mod pairs;
 pub mod saturation;
+mod theory;
 mod turns;
 
 pub use saturation::saturate;

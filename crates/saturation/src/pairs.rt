@@ -1,42 +1,47 @@
 //! What follows from two clauses, one with a role part and one without.
-ghost use Rattle.std.specs.Prelude.{◌≡◌, ◌<◌, ◌≤◌, List, length, Some as Just, None as Nothing, Decides, MatchResult};
-ghost use Rattle.std.specs.List.{AllByRecursion};
+ghost use Rattle.std.specs.Prelude.{◌≡◌, ◌<◌, length, Some as Just, Decides, MatchOption};
 ghost use Rattle.terms.specs.Axioms.{WellFormed};
-ghost use Rattle.terms.specs.declared.axioms.Axiom.{Axiom as AxiomOf};
-ghost use Rattle.closure.specs.Closures.{Head, rising};
 ghost use Rattle.closure.specs.Closures.{Clause as ClauseOf};
-ghost use Rattle.tables.specs.Tables.{tables, clause_of, Cites, Good};
-ghost use Rattle.tables.specs.Adding.{Enters, Below};
-ghost use Rattle.roles.specs.Reaching.{Shows};
+ghost use Rattle.tables.specs.Tables.{clause_of, Cites};
+ghost use Rattle.tables.specs.Adding.{Ends, Below};
+ghost use Rattle.tables.specs.Lent.{lent, SameLent};
 ghost use Rattle.saturation.specs.Conclusions.{Brought, PairBy, OfPair, Shares, RolesBelow};
+ghost use Rattle.saturation.specs.Meets.{Meets};
 
-use crate::choices::lone;
-use crate::heads::{head, is_empty};
-use roles::Reach;
-use tables::{ClauseRecord, ContextRecord, Counts, Full, RolePart, enter_clause, enter_toward};
-use terms::{Axiom, ClassSet};
+use crate::theory::Theory;
+use tables::{ClauseRecord, ContextRecord, Full, LentTables, RolePart};
+use terms::Axiom;
 
-/// Enters what one axiom gives from a clause with the role part `part` and another clause with the head `top`.
-fn meet(
-    axiom: Axiom,
-    reach: &Reach,
-    contexts: &mut [ContextRecord],
-    clauses: &mut [ClauseRecord],
-    counts: Counts,
+/// A clause with its role part, and another clause with its head.
+#[derive(Clone, Copy)]
+struct Meeting {
     clause: ClauseRecord,
     part: RolePart,
     other: ClauseRecord,
     top: u8,
-) -> Result<Counts, Full>
+}
+
+/// Enters what one axiom gives from the two clauses.
+fn meet(
+    axiom: Axiom,
+    theory: Theory<'_>,
+    tables: &mut LentTables<'_>,
+    meeting: Meeting,
+) -> Result<(), Full>
     requires formed { WellFormed 64 16 «axiom» }
-    requires good { Good (tables contexts.old clauses.old counts) }
-    requires few { length contexts.old ≤ 256 }
-    requires toward { (clause.part ≡ Just part) × (part.role < 16) × Cites counts.contexts clause }
-    requires headed { (top < 64) × (other.part ≡ Nothing) × Head rising other.classes.bits top × Cites counts.contexts other }
-    ensures { (axs : List AxiomOf) (t e : ClauseOf) → Shows axs reach.now.rows → clause_of contexts.old clause ≡ t → clause_of contexts.old other ≡ e
-        → Enters (Brought (PairBy axs «axiom» t e)) (tables contexts.old clauses.old counts) (tables contexts.new clauses.new) result }
+    requires meets { Meets tables.old.counts.contexts meeting }
+    ensures same { SameLent tables.old tables.new }
+    ensures gives { (t e : ClauseOf) → clause_of tables.old.contexts.now meeting.clause ≡ t → clause_of tables.old.contexts.now meeting.other ≡ e
+        → Ends (Brought (PairBy theory.entry.axioms.now «axiom» t e)) (lent tables.old) (lent tables.new) result }
 {
-    let target = contexts[part.context as usize];
+    let Meeting {
+        clause,
+        part,
+        other,
+        top,
+    } = meeting;
+    let reach = theory.reach;
+    let target = tables.contexts[usize::from(part.context)];
     match axiom {
         Axiom::ExistsLower {
             role,
@@ -44,16 +49,13 @@ fn meet(
             upper,
         } => {
             if filler != top || other.context != part.context || !reach.reaches(part.role, role) {
-                return Ok(counts);
+                return Ok(());
             }
             let denying = ContextRecord {
                 held: target.held,
                 denied: target.denied.with(filler),
             };
-            enter_toward(
-                contexts,
-                clauses,
-                counts,
+            tables.enter_toward(
                 clause.context,
                 clause.classes.with(upper),
                 part.role,
@@ -66,130 +68,90 @@ fn meet(
             filler,
         } => {
             if lower != top || other.context != clause.context || !reach.reaches(part.role, role) {
-                return Ok(counts);
+                return Ok(());
             }
             let holding = ContextRecord {
                 held: target.held.with(filler),
                 denied: target.denied,
             };
             let classes = clause.classes.union(other.classes.without(lower));
-            enter_toward(
-                contexts,
-                clauses,
-                counts,
-                clause.context,
-                classes,
-                part.role,
-                holding,
-            )
+            tables.enter_toward(clause.context, classes, part.role, holding)
         }
-        Axiom::Inclusion { .. } => Ok(counts),
-        Axiom::Exists { .. } => Ok(counts),
-        Axiom::RoleInclusion { .. } => Ok(counts),
+        _ => Ok(()),
     }
 }
 
 /// Enters what all axioms give from them.
-fn meet_all(
-    axioms: &[Axiom],
-    reach: &Reach,
-    contexts: &mut [ContextRecord],
-    clauses: &mut [ClauseRecord],
-    counts: Counts,
-    clause: ClauseRecord,
-    part: RolePart,
-    other: ClauseRecord,
-    top: u8,
-) -> Result<Counts, Full>
-    requires formed { AllByRecursion (WellFormed 64 16) axioms.now }
-    requires shows { Shows axioms.now reach.now.rows }
-    requires good { Good (tables contexts.old clauses.old counts) }
-    requires few { length contexts.old ≤ 256 }
-    requires toward { (clause.part ≡ Just part) × (part.role < 16) × Cites counts.contexts clause }
-    requires headed { (top < 64) × (other.part ≡ Nothing) × Head rising other.classes.bits top × Cites counts.contexts other }
-    ensures { (t e : ClauseOf) → clause_of contexts.old clause ≡ t → clause_of contexts.old other ≡ e
-        → Enters (Below axioms.now (length axioms.now) (λ x. Brought (PairBy axioms.now x t e)))
-        (tables contexts.old clauses.old counts) (tables contexts.new clauses.new) result }
+fn meet_all(theory: Theory<'_>, tables: &mut LentTables<'_>, meeting: Meeting) -> Result<(), Full>
+    requires { Meets tables.old.counts.contexts meeting }
+    ensures same { SameLent tables.old tables.new }
+    ensures gives { (t e : ClauseOf) → clause_of tables.old.contexts.now meeting.clause ≡ t → clause_of tables.old.contexts.now meeting.other ≡ e
+        → Ends (Below theory.entry.axioms.now (length theory.entry.axioms.now) (λ x. Brought (PairBy theory.entry.axioms.now x t e))) (lent tables.old) (lent tables.new) result }
 {
-    let mut counts = counts;
-    for k in 0..axioms.len() {
-        counts = meet(
-            axioms[k], reach, contexts, clauses, counts, clause, part, other, top,
-        )?;
+    for axiom in theory.axioms {
+        meet(*axiom, theory, tables, meeting)?;
     }
-    Ok(counts)
+    Ok(())
 }
 
 /// Enters what follows from a clause with the role part `part` and another clause.
 fn follow(
-    axioms: &[Axiom],
-    reach: &Reach,
-    contexts: &mut [ContextRecord],
-    clauses: &mut [ClauseRecord],
-    counts: Counts,
+    theory: Theory<'_>,
+    tables: &mut LentTables<'_>,
     clause: ClauseRecord,
     part: RolePart,
     other: ClauseRecord,
-) -> Result<Counts, Full>
-    requires formed { AllByRecursion (WellFormed 64 16) axioms.now }
-    requires shows { Shows axioms.now reach.now.rows }
-    requires good { Good (tables contexts.old clauses.old counts) }
-    requires few { length contexts.old ≤ 256 }
-    requires toward { (clause.part ≡ Just part) × (part.role < 16) × Cites counts.contexts clause }
-    requires cited { Cites counts.contexts other }
-    ensures { (t e : ClauseOf) → clause_of contexts.old clause ≡ t → clause_of contexts.old other ≡ e
-        → Enters (Brought (OfPair axioms.now t e)) (tables contexts.old clauses.old counts) (tables contexts.new clauses.new) result }
+) -> Result<(), Full>
+    requires toward { (clause.part ≡ Just part) × (part.role < 16) }
+    requires cited { Cites tables.old.counts.contexts clause × Cites tables.old.counts.contexts other }
+    ensures same { SameLent tables.old tables.new }
+    ensures gives { (t e : ClauseOf) → clause_of tables.old.contexts.now clause ≡ t → clause_of tables.old.contexts.now other ≡ e
+        → Ends (Brought (OfPair theory.entry.axioms.now t e)) (lent tables.old) (lent tables.new) result }
 {
-    match head(other) {
-        Some(top) => meet_all(
-            axioms, reach, contexts, clauses, counts, clause, part, other, top,
-        ),
-        None => {
-            if other.context != part.context || !is_empty(other) {
-                return Ok(counts);
-            }
-            enter_clause(clauses, counts, lone(clause.context, clause.classes))
-        }
+    if let Some(top) = other.head() {
+        let meeting = Meeting {
+            clause,
+            part,
+            other,
+            top,
+        };
+        return meet_all(theory, tables, meeting);
     }
+    if other.context != part.context || !other.is_empty() {
+        return Ok(());
+    }
+    tables.enter_clause(ClauseRecord::lone(clause.context, clause.classes))
+}
+
+/// The role part of the clause, where the other is of its context or of the one that the role part is toward.
+fn shared_part(clause: ClauseRecord, other: ClauseRecord) -> Option<RolePart>
+    ensures { MatchOption result (Shares clause other → ⊥) (λ part. clause.part ≡ Just part × Shares clause other) }
+{
+    clause.part.filter(|part| other.context == part.context || other.context == clause.context)
 }
 
 /// Whether the clause has a role part, and the other is of its context or of the one that the role part is toward.
 pub(crate) fn shares(clause: ClauseRecord, other: ClauseRecord) -> bool
     ensures { Decides result (Shares clause other) }
 {
-    match clause.part {
-        Some(part) => other.context == part.context || other.context == clause.context,
-        None => false,
-    }
+    shared_part(clause, other).is_some()
 }
 
 /// Enters what follows from a clause with a role part and one without; nothing where they are not such, or share no context.
 pub(crate) fn pair(
-    axioms: &[Axiom],
-    reach: &Reach,
-    contexts: &mut [ContextRecord],
-    clauses: &mut [ClauseRecord],
-    counts: Counts,
+    theory: Theory<'_>,
+    tables: &mut LentTables<'_>,
     clause: ClauseRecord,
     other: ClauseRecord,
-) -> Result<Counts, Full>
-    requires formed { AllByRecursion (WellFormed 64 16) axioms.now }
-    requires shows { Shows axioms.now reach.now.rows }
-    requires good { Good (tables contexts.old clauses.old counts) }
-    requires few { length contexts.old ≤ 256 }
-    requires cited { Cites counts.contexts clause × Cites counts.contexts other }
+) -> Result<(), Full>
+    requires cited { Cites tables.old.counts.contexts clause × Cites tables.old.counts.contexts other }
     requires roles { RolesBelow 16 clause.part }
-    ensures { (t e : ClauseOf) → clause_of contexts.old clause ≡ t → clause_of contexts.old other ≡ e
-        → Enters (Brought (OfPair axioms.now t e)) (tables contexts.old clauses.old counts) (tables contexts.new clauses.new) result }
+    ensures same { SameLent tables.old tables.new }
+    ensures gives { (t e : ClauseOf) → clause_of tables.old.contexts.now clause ≡ t → clause_of tables.old.contexts.now other ≡ e
+        → Ends (Brought (OfPair theory.entry.axioms.now t e)) (lent tables.old) (lent tables.new) result }
 {
-    let part = match clause.part {
-        Some(part) => part,
-        None => return Ok(counts),
+    let Some(part) = shared_part(clause, other) else {
+        return Ok(());
     };
-    if other.context != part.context && other.context != clause.context {
-        return Ok(counts);
-    }
-    follow(
-        axioms, reach, contexts, clauses, counts, clause, part, other,
-    )
+    follow(theory, tables, clause, part, other)
 }

@@ -1,155 +1,105 @@
 //! What follows from one clause, with the clauses before it.
-ghost use Rattle.std.specs.Prelude.{◌≡◌, ℕ, ◌+◌, ◌<◌, ◌≤◌, List, length, None as Nothing};
-ghost use Rattle.std.specs.List.{AllByRecursion};
+ghost use Rattle.std.specs.Prelude.{ℕ, ◌+◌, ◌<◌, List};
 ghost use Rattle.terms.specs.Axioms.{WellFormed};
-ghost use Rattle.closure.specs.Closures.{Head, rising};
 ghost use Rattle.closure.specs.Closures.{Clause as ClauseOf};
 ghost use Rattle.tables.specs.Entering.{Among};
-ghost use Rattle.tables.specs.Tables.{tables, clause_of, Cites, Good};
-ghost use Rattle.tables.specs.Adding.{Enters};
+ghost use Rattle.tables.specs.Records.{Tops};
+ghost use Rattle.tables.specs.Tables.{clause_of, Cites};
+ghost use Rattle.tables.specs.Adding.{Ends};
+ghost use Rattle.tables.specs.Lent.{lent, SameLent, ContextsKept};
 ghost use Rattle.tables.specs.declared.records.ClauseRecord.{ClauseRecord as ClauseRecordOf};
-ghost use Rattle.roles.specs.Reaching.{Shows};
 ghost use Rattle.saturation.specs.Choices.{Given, given_record};
 ghost use Rattle.saturation.specs.Conclusions.{Brought, DeniedHead, ByAxiom, OfOne, OfTurn, RolesBelow};
 
-use crate::choices::{choose, lone};
-use crate::heads::head;
+use crate::choices::choose;
 use crate::pairs::{pair, shares};
-use roles::Reach;
-use tables::{ClauseRecord, ContextRecord, Counts, Full, enter_clause, enter_toward};
+use crate::theory::Theory;
+use tables::{ClauseRecord, ContextRecord, Full, LentTables};
 use terms::{Axiom, ClassSet};
 
 /// Enters the clause without its head `top`, where its context denies that.
-fn deny(
-    contexts: &[ContextRecord],
-    clauses: &mut [ClauseRecord],
-    counts: Counts,
-    given: ClauseRecord,
-    top: u8,
-) -> Result<Counts, Full>
-    requires good { Good (tables contexts.now clauses.old counts) }
-    requires cited { Cites counts.contexts given }
-    requires headed { (top < 64) × (given.part ≡ Nothing) × Head rising given.classes.bits top }
-    ensures { Enters (Brought (DeniedHead (clause_of contexts.now given))) (tables contexts.now clauses.old counts) (tables contexts.now clauses.new) result }
+fn deny(tables: &mut LentTables<'_>, given: ClauseRecord, top: u8) -> Result<(), Full>
+    requires cited { Cites tables.old.counts.contexts given }
+    requires headed { Tops given top × (top < 64) }
+    ensures same { SameLent tables.old tables.new }
+    ensures kept { ContextsKept tables.old tables.new }
+    ensures denies { Ends (Brought (DeniedHead (clause_of tables.old.contexts.now given))) (lent tables.old) (lent tables.new) result }
 {
-    if !contexts[given.context as usize].denied.contains(top) {
-        return Ok(counts);
+    if !tables.contexts[usize::from(given.context)]
+        .denied
+        .contains(top)
+    {
+        return Ok(());
     }
-    enter_clause(
-        clauses,
-        counts,
-        lone(given.context, given.classes.without(top)),
-    )
+    tables.enter_clause(ClauseRecord::lone(given.context, given.classes.without(top)))
 }
 
 /// Enters what one axiom gives from the clause in slot `slot`, which has the head `top`, and the clauses before it.
-fn apply(
-    axiom: Axiom,
-    contexts: &mut [ContextRecord],
-    clauses: &mut [ClauseRecord],
-    counts: Counts,
-    slot: usize,
-    top: u8,
-) -> Result<Counts, Full>
+// The head is that of a clause in a slot, so a type that kept the two together would have to hold the tables.
+fn apply(axiom: Axiom, tables: &mut LentTables<'_>, slot: usize, top: u8) -> Result<(), Full>
     requires formed { WellFormed 64 16 «axiom» }
-    requires good { Good (tables contexts.old clauses.old counts) }
-    requires few { length contexts.old ≤ 256 }
-    requires used { slot < counts.clauses }
-    requires headed { (top < 64) × ((given_record clauses.old slot).part ≡ Nothing) × Head rising (given_record clauses.old slot).classes.bits top }
-    ensures { (c : ClauseOf) (Ts : List ℕ) → Given (tables contexts.old clauses.old counts) slot c Ts
-        → Enters (Brought (ByAxiom «axiom» Ts c)) (tables contexts.old clauses.old counts) (tables contexts.new clauses.new) result }
+    requires used { slot < tables.old.counts.clauses }
+    requires headed { Tops (given_record tables.old.clauses.now slot) top × (top < 64) }
+    ensures same { SameLent tables.old tables.new }
+    ensures applies { (c : ClauseOf) (Ts : List ℕ) → Given (lent tables.old) slot c Ts
+        → Ends (Brought (ByAxiom «axiom» Ts c)) (lent tables.old) (lent tables.new) result }
 {
     match axiom {
-        Axiom::Inclusion { lower, upper } => {
-            if !lower.contains(top) {
-                return Ok(counts);
-            }
-            choose(clauses, counts, slot, top, lower, upper)
+        Axiom::Inclusion { lower, upper } if lower.contains(top) => {
+            choose(tables, slot, top, lower, upper)
         }
         Axiom::Exists {
             lower,
             role,
             filler,
-        } => {
-            if lower != top {
-                return Ok(counts);
-            }
-            let given = clauses[slot];
+        } if lower == top => {
+            let given = tables.clauses[slot];
             let successor = ContextRecord {
                 held: ClassSet::single(filler),
                 denied: ClassSet::empty(),
             };
-            enter_toward(
-                contexts,
-                clauses,
-                counts,
-                given.context,
-                given.classes.without(top),
-                role,
-                successor,
-            )
+            tables.enter_toward(given.context, given.classes.without(top), role, successor)
         }
-        Axiom::ExistsLower { .. } => Ok(counts),
-        Axiom::Forall { .. } => Ok(counts),
-        Axiom::RoleInclusion { .. } => Ok(counts),
+        _ => Ok(()),
     }
 }
 
 /// Enters what follows from the clause in slot `slot` by itself, and by inclusions with the clauses before it.
-fn alone(
-    axioms: &[Axiom],
-    contexts: &mut [ContextRecord],
-    clauses: &mut [ClauseRecord],
-    counts: Counts,
-    slot: usize,
-) -> Result<Counts, Full>
-    requires formed { AllByRecursion (WellFormed 64 16) axioms.now }
-    requires good { Good (tables contexts.old clauses.old counts) }
-    requires few { length contexts.old ≤ 256 }
-    requires used { slot < counts.clauses }
-    ensures { (c : ClauseOf) (Ts : List ℕ) → Given (tables contexts.old clauses.old counts) slot c Ts
-        → Enters (OfOne axioms.now Ts c) (tables contexts.old clauses.old counts) (tables contexts.new clauses.new) result }
+fn alone(theory: Theory<'_>, tables: &mut LentTables<'_>, slot: usize) -> Result<(), Full>
+    requires { slot < tables.old.counts.clauses }
+    ensures same { SameLent tables.old tables.new }
+    ensures gives { (c : ClauseOf) (Ts : List ℕ) → Given (lent tables.old) slot c Ts
+        → Ends (OfOne theory.entry.axioms.now Ts c) (lent tables.old) (lent tables.new) result }
 {
-    let given = clauses[slot];
-    let top = match head(given) {
-        Some(top) => top,
-        None => return Ok(counts),
+    let given = tables.clauses[slot];
+    let Some(top) = given.head() else {
+        return Ok(());
     };
-    let mut counts = deny(contexts, clauses, counts, given, top)?;
-    for k in 0..axioms.len() {
-        counts = apply(axioms[k], contexts, clauses, counts, slot, top)?;
+    deny(tables, given, top)?;
+    for axiom in theory.axioms {
+        apply(*axiom, tables, slot, top)?;
     }
-    Ok(counts)
+    Ok(())
 }
 
-/// Enters all that follows from the clause in slot `slot` and the clauses up to it.
-pub(crate) fn turn(
-    axioms: &[Axiom],
-    reach: &Reach,
-    contexts: &mut [ContextRecord],
-    clauses: &mut [ClauseRecord],
-    counts: Counts,
-    slot: usize,
-) -> Result<Counts, Full>
-    requires formed { AllByRecursion (WellFormed 64 16) axioms.now }
-    requires shows { Shows axioms.now reach.now.rows }
-    requires good { Good (tables contexts.old clauses.old counts) }
-    requires few { length contexts.old ≤ 256 }
-    requires used { slot < counts.clauses }
-    requires roles { (x : ClauseRecordOf) → Among clauses.old (slot + 1) x → RolesBelow 16 x.part }
-    ensures { (c : ClauseOf) (Ts : List ℕ) → Given (tables contexts.old clauses.old counts) slot c Ts
-        → Enters (OfTurn axioms.now contexts.old clauses.old (slot + 1) Ts c)
-        (tables contexts.old clauses.old counts) (tables contexts.new clauses.new) result }
+/// Enters all that follows from the clause in slot `slot` and the clauses up to it. These are read by slot, since the loop adds to their table.
+// Each call reads the theory and writes the tables; a struct of both would lend the theory for writing too.
+pub(crate) fn turn(theory: Theory<'_>, tables: &mut LentTables<'_>, slot: usize) -> Result<(), Full>
+    requires used { slot < tables.old.counts.clauses }
+    requires roles { (x : ClauseRecordOf) → Among tables.old.clauses.now (slot + 1) x → RolesBelow 16 x.part }
+    ensures same { SameLent tables.old tables.new }
+    ensures gives { (c : ClauseOf) (Ts : List ℕ) → Given (lent tables.old) slot c Ts
+        → Ends (OfTurn theory.entry.axioms.now tables.old.contexts.now tables.old.clauses.now (slot + 1) Ts c) (lent tables.old) (lent tables.new) result }
 {
-    let given = clauses[slot];
-    let mut counts = alone(axioms, contexts, clauses, counts, slot)?;
+    let given = tables.clauses[slot];
+    alone(theory, tables, slot)?;
     for j in 0..slot + 1 {
-        let other = clauses[j];
+        let other = tables.clauses[j];
         if !shares(given, other) && !shares(other, given) {
             continue;
         }
-        counts = pair(axioms, reach, contexts, clauses, counts, given, other)?;
-        counts = pair(axioms, reach, contexts, clauses, counts, other, given)?;
+        pair(theory, tables, given, other)?;
+        pair(theory, tables, other, given)?;
     }
-    Ok(counts)
+    Ok(())
 }

@@ -6,51 +6,64 @@
 
 use sheets::Sheet;
 use sources::Source;
-use std::alloc::AllocError;
+use std::alloc::{AllocError, AllocFailed};
 use std::io;
 use std::io::{BufRead, BufReader};
 
+/// Why no sheet was made of a line.
+#[derive(Clone, Copy)]
+enum NoSheet {
+    /// The line spells none.
+    NotSpelled,
+    /// There was no memory for it.
+    OutOfMemory,
+}
+
+impl From<AllocFailed<u8>> for NoSheet {
+    fn from(_failed: AllocFailed<u8>) -> Self {
+        NoSheet::OutOfMemory
+    }
+}
+
 /// The value of a hexadecimal digit.
-fn digit(byte: u8) -> Option<u8> {
+// By its ranges: `to_digit` would take capital letters too.
+fn digit(byte: u8) -> Result<u8, NoSheet> {
     match byte {
-        b'0'..=b'9' => Some(byte - b'0'),
-        b'a'..=b'f' => Some(byte - b'a' + 10),
-        _ => None,
+        b'0'..=b'9' => Ok(byte - b'0'),
+        b'a'..=b'f' => Ok(byte - b'a' + 10),
+        _ => Err(NoSheet::NotSpelled),
     }
 }
 
-/// Appends the bytes that the digits spell; false where they spell none.
-fn push_hex(out: &mut Vec<u8>, digits: &[u8]) -> Result<bool, AllocError> {
-    for i in 0..digits.len() / 2 {
-        let (Some(high), Some(low)) = (digit(digits[2 * i]), digit(digits[2 * i + 1])) else {
-            return Ok(false);
+/// Appends the bytes that the digits spell, two digits a byte.
+fn push_hex(out: &mut Vec<u8>, digits: &[u8]) -> Result<(), NoSheet> {
+    for pair in digits.chunks(2) {
+        let [high, low] = pair else {
+            return Err(NoSheet::NotSpelled);
         };
-        out.push(high.wrapping_mul(16) | low)?;
+        out.push(digit(*high)?.wrapping_mul(16) | digit(*low)?)?;
     }
-    Ok(digits.len() % 2 == 0)
+    Ok(())
 }
 
-/// Appends the sheet that a line spells; false where it spells none.
-fn push_line(out: &mut Vec<u8>, line: &str) -> Result<bool, AllocError> {
-    let mut times = 0u32;
-    for (i, piece) in line.split(' ').enumerate() {
-        if i % 2 == 0 {
-            match piece.parse::<u32>() {
-                Ok(count) => times = count,
-                Err(_) => return Ok(false),
-            }
-        } else {
-            for _ in 0..times {
-                if !push_hex(out, piece.as_bytes())? {
-                    return Ok(false);
-                }
-            }
+/// Appends the sheet that a line spells.
+fn push_line(out: &mut Vec<u8>, line: &str) -> Result<(), NoSheet> {
+    let mut words = line.split(' ');
+    // The words are taken two at a time, a count and its digits, and a `for` takes one.
+    while let Some(count) = words.next() {
+        let times = count.parse::<u32>().map_err(|_| NoSheet::NotSpelled)?;
+        let Some(digits) = words.next() else {
+            return Ok(());
+        };
+        for _ in 0..times {
+            push_hex(out, digits.as_bytes())?;
         }
     }
-    Ok(true)
+    Ok(())
 }
 
 /// Prints what opening a text gives.
+// `report` prints the counts in the same lines: one more type to print them by would be no shorter in either program.
 fn answer(rt: &HostRuntime, text: &[u8]) -> io::Result<()> {
     let mut sheet = Sheet::new();
     match sheet.open(text) {
@@ -67,10 +80,10 @@ fn answer(rt: &HostRuntime, text: &[u8]) -> io::Result<()> {
 fn main(rt: HostRuntime) -> io::Result<()> {
     for line in BufReader::new(rt.alloc(), rt.stdin())?.lines(rt.alloc()) {
         let mut text = Vec::new(rt.alloc());
-        if push_line(&mut text, line?.as_str())? {
-            answer(&rt, &text)?;
-        } else {
-            println!(rt; "no sheet")?;
+        match push_line(&mut text, line?.as_str()) {
+            Ok(()) => answer(&rt, &text)?,
+            Err(NoSheet::NotSpelled) => println!(rt; "no sheet")?,
+            Err(NoSheet::OutOfMemory) => return Err(AllocError.into()),
         }
     }
     Ok(())

@@ -20,16 +20,3 @@ cut bs n e h t b rest w =
     let lo = ap (λ l. get_or l 2 0) w in
     let all = ap length w in
     omega (arith, length-append b rest, length-drop 3 bs)
-
-pub three : (bs : List ℕ) → length bs ≡ 3 → bs ≡ get_or bs 0 0 ∷ get_or bs 1 0 ∷ get_or bs 2 0 ∷ []
-three [] h = absurd (omega arith)
-three (x ∷ []) h = absurd (omega arith)
-three (x ∷ y ∷ []) h = absurd (omega arith)
-three (x ∷ y ∷ z ∷ []) h = refl
-three (x ∷ y ∷ z ∷ w ∷ bs) h = absurd (omega arith)
-
-pub two : (bs : List ℕ) → length bs ≡ 2 → bs ≡ get_or bs 0 0 ∷ get_or bs 1 0 ∷ []
-two [] h = absurd (omega arith)
-two (x ∷ []) h = absurd (omega arith)
-two (x ∷ y ∷ []) h = refl
-two (x ∷ y ∷ z ∷ bs) h = absurd (omega arith)

@@ -1,8 +1,7 @@
+pub mod Cases
 pub mod Bytes
 pub mod Fields
 pub mod Spellings
 pub mod Entries
 pub mod Outcomes
 pub mod Progress
-pub mod Keeping
-pub mod Taking

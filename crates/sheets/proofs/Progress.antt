@@ -1,9 +1,11 @@
 -- How far opening has come.
-use Rattle.std.proofs.Common.{◌≡◌, ℕ, ◌+◌, ◌<◌, ◌≤◌, List, [], ◌∷◌, ◌++◌, length, sym, refl, ap, ◌∙◌, subst, inl, inr, append_assoc, append-nil, arith, length-append}
-use Rattle.std.proofs.lemmas.List.{nil_from_length}
+use Rattle.std.proofs.Common.{◌≡◌, ℕ, Some, Result, Ok, ◌+◌, ◌<◌, ◌≤◌, List, [], ◌∷◌, ◌++◌, length, sym, refl, ap, ◌∙◌, subst, inl, inr, append_assoc, append-nil, arith, length-append}
+use Rattle.terms.specs.declared.refusals.Fault.{Fault}
 use Rattle.terms.specs.declared.refusals.Layer.{Layer}
 use Rattle.terms.specs.Refusals.{refused, Passes, FirstFailing}
-use Rattle.sheets.specs.Sheets.{Entry, tag, body, in_sheet, field_of, written, Contents, nothing, more, after, field_checks, entry_checks, Fits, Formed, Says, Fails, Opens, Gives}
+use Rattle.sheets.specs.declared.field.Field.{Field}
+use Rattle.sheets.specs.Fields.{Reads}
+use Rattle.sheets.specs.Sheets.{Entry, tag, body, in_sheet, field_of, written, Contents, nothing, more, after, field_checks, entry_checks, Fits, Formed, Says, Fails, Gives}
 
 -- the text up to place is written by a well formed list of entries, after which c is held and rest is left
 pub record Sofar (text : List ℕ) (c : Contents) (rest : List ℕ) (place : ℕ) : Type 0 where
@@ -13,18 +15,6 @@ pub record Sofar (text : List ℕ) (c : Contents) (rest : List ℕ) (place : ℕ
   pub formed : Formed nothing good
   pub there : place ≡ length (written good)
   pub holds : c ≡ after nothing good
-
-pub start : (text : List ℕ) (c : Contents) (rest : List ℕ) (place : ℕ) → length text ≤ 60000 → c ≡ nothing → rest ≡ text → place ≡ 0 → Sofar text c rest place
-start text c rest place l e w z = record { good = []; short = l; whole = sym w; formed = tt; there = z; holds = e }
-
-pub finish : {text : List ℕ} {c : Contents} {rest : List ℕ} {place : ℕ} → Sofar text c rest place → length rest ≡ 0 → Opens text c
-finish {text} {c} {rest} h z = record {
-  entries = h.good;
-  short = h.short;
-  whole = h.whole ∙ ap (λ l. written h.good ++ l) (nil_from_length rest z) ∙ append-nil (written h.good);
-  formed = h.formed;
-  holds = h.holds;
-}
 
 -- ---- one more entry
 
@@ -80,3 +70,7 @@ module _ {text : List ℕ} {c : Contents} {rest : List ℕ} {place : ℕ} (h : S
 
   pub stop_entry : (n p : ℕ) (y : Layer) (t : ℕ) (b rest' : List ℕ) (d : Entry) → p ≡ place → y ≡ in_sheet → rest ≡ field_of t b ++ rest' → Says t b d → Passes (field_checks t b) → FirstFailing (entry_checks c d) n → Gives text (refused n p y)
   stop_entry n p y t b rest' d e l w s g f = stop n p y t b rest' e l w (inr (d, s, g, f))
+
+-- what came of a step that read a field
+pub read_field : (bytes rest : List ℕ) (place next : ℕ) {r : Result Field Fault} {f : Field} → r ≡ Ok f → Reads bytes place (Some r) rest next → Reads bytes place (Some (Ok f)) rest next
+read_field bytes rest place next e h = subst (λ x. Reads bytes place (Some x) rest next) e h

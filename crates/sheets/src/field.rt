@@ -1,7 +1,9 @@
 //! The fields of a sheet: a tag, a length of two bytes with the high one first, and that many bytes.
-ghost use Rattle.std.specs.Prelude.{◌≡◌, ◌+◌, ◌≤◌, ◌++◌, length, Decides, MatchResult};
+ghost use Rattle.std.specs.Prelude.{◌≡◌, ◌+◌, ◌≤◌, ◌++◌, length, MatchResult};
 ghost use Rattle.terms.specs.declared.refusals.Refusal.TheVariants.{CutShort};
+ghost use Rattle.std.specs.Iterator.{at_most};
 ghost use Rattle.sheets.specs.Sheets.{field_of, in_sheet, Short};
+ghost use Rattle.sheets.specs.Fields.{Reads};
 
 use terms::{Fault, Layer, Refusal};
 
@@ -34,15 +36,8 @@ impl<'a> Reader<'a> {
         }
     }
 
-    /// Whether nothing is left.
-    pub fn is_done(&self) -> bool
-        ensures { Decides result (length self.now.rest.now ≡ 0) }
-    {
-        self.rest.is_empty()
-    }
-
     /// Takes the field at the front, or refuses what is no whole field.
-    pub fn next(&mut self) -> Result<Field<'a>, Fault>
+    fn field(&mut self) -> Result<Field<'a>, Fault>
         ensures { MatchResult result
             (λ f. (self.old.rest.now ≡ field_of f.tag f.body.now ++ self.new.rest.now)
             × (f.place ≡ self.old.place)
@@ -66,5 +61,25 @@ impl<'a> Reader<'a> {
             tag: *tag,
             body,
         })
+    }
+}
+
+/// The fields from the front on; the refusal of what is no whole field is the last item.
+impl<'a> Iterator for Reader<'a> {
+    type Item = Result<Field<'a>, Fault>;
+
+    ghost remaining = { λ r. at_most (length r.rest.now) };
+
+    ghost next_gives = { λ r item s. Reads r.rest.now r.place item s.rest.now s.place };
+
+    fn next(&mut self) -> Option<Result<Field<'a>, Fault>> {
+        if self.rest.is_empty() {
+            return None;
+        }
+        let field = self.field();
+        if field.is_err() {
+            self.rest = &[];
+        }
+        Some(field)
     }
 }

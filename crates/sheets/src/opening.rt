@@ -1,49 +1,47 @@
 //! Opening a sheet.
-ghost use Rattle.std.specs.Prelude.{◌≡◌, ◌≤◌, [], ◌∷◌, ◌++◌, map, length, Err, Decides, MatchResult, OnErr};
+ghost use Rattle.std.specs.Prelude.{◌≡◌, [], ◌∷◌, ◌++◌, Err, Decides, MatchResult, OnErr};
 ghost use Rattle.std.specs.List.{ContainsAt};
-ghost use Rattle.terms.specs.Refusals.{Told, told, done, Answers, Passes};
-ghost use Rattle.sources.specs.Meanings.{Limits};
-ghost use Rattle.sheets.specs.Sheets.{Contents, in_sheet, nothing, more, an_axiom, meaning_of, field_checks, name_checks, entry_checks, Gives, outcome};
-ghost use Rattle.sheets.specs.Sheets as Of;
-ghost use Rattle.sheets.specs.Held.{spelled, names_in, held, entry_of};
+ghost use Rattle.terms.specs.Refusals.{Told, told, done, Answers};
+ghost use Rattle.sheets.specs.Sheets.{Contents, in_sheet, nothing, more, an_axiom, name_checks, entry_checks, Gives, outcome};
+ghost use Rattle.sheets.specs.Lists.{spelled};
+ghost use Rattle.sheets.specs.Held.{held, entry_of};
 
 use crate::contents::Sheet;
 use crate::field::Reader;
 use crate::item::Item;
 use crate::name;
 use crate::name::Name;
-use crate::row::Row;
-use terms::{Axiom, ClassSet, Fault, Layer, Refusal};
+use arrayvec::ArrayVec;
+use sources::Source;
+use terms::{Axiom, Fault, Layer, Refusal};
 
 /// Whether one of the names is spelled so.
-fn is_among(names: &[Name], text: &[u8]) -> bool
-    ensures { Decides result (ContainsAt (map spelled names.now) text.now) }
+fn is_among(names: &[Name], name: &Name) -> bool
+    ensures { Decides result (ContainsAt (spelled names.now) name.now.items) }
 {
-    for other in names {
-        if other.as_bytes() == text {
-            return true;
-        }
-    }
-    false
+    names.contains(name)
 }
 
-/// Puts a name that has not too many bytes at the end of the names.
-fn declare<const N: usize>(names: &mut Row<Name, N>, text: &[u8], place: usize) -> Result<(), Fault>
-    requires { length text.now ≤ 40 }
-    ensures { Answers (name_checks (names_in names.old.items names.old.len) N text.now) place in_sheet
-        (λ _. names_in names.new.items names.new.len ≡ names_in names.old.items names.old.len ++ text.now ∷ [])
+/// Puts a name at the end of the names.
+fn declare<const N: usize>(
+    names: &mut ArrayVec<Name, N>,
+    name: Name,
+    place: usize,
+) -> Result<(), Fault>
+    ensures answers { Answers (name_checks (spelled names.old.items) N name.items) place in_sheet
+        (λ _. spelled names.new.items ≡ spelled names.old.items ++ name.items ∷ [])
         (told result) }
+    ensures kept { OnErr result (names.new ≡ names.old) }
 {
-    if !name::is_printed(text) {
+    if !name::is_printed(&name) {
         return Err(Refusal::NameByte.at(place, Layer::Sheet));
     }
-    if is_among(names.as_slice(), text) {
+    if is_among(names, &name) {
         return Err(Refusal::NameRepeated.at(place, Layer::Sheet));
     }
-    if !names.push(Name::new(text)) {
-        return Err(Refusal::TooMany.at(place, Layer::Sheet));
-    }
-    Ok(())
+    names
+        .try_push(name)
+        .map_err(|_| Refusal::TooMany.at(place, Layer::Sheet))
 }
 
 impl Sheet {
@@ -52,17 +50,12 @@ impl Sheet {
 
     /// The empty sheet: no classes, roles or axioms.
     pub fn new() -> Sheet
-        ensures empty { held result ≡ nothing }
-        ensures keeps { Limits (meaning_of (held result)) }
+        ensures { held result ≡ nothing }
     {
-        let blank = Name::new(b"");
         Sheet {
-            classes: Row::new(blank),
-            roles: Row::new(blank),
-            axioms: Row::new(Axiom::Inclusion {
-                lower: ClassSet::empty(),
-                upper: ClassSet::empty(),
-            }),
+            classes: ArrayVec::new(),
+            roles: ArrayVec::new(),
+            axioms: ArrayVec::new(),
         }
     }
 
@@ -71,28 +64,21 @@ impl Sheet {
         ensures { Answers (entry_checks (held self.old) (an_axiom «axiom»)) place in_sheet
             (λ _. held self.new ≡ more (held self.old) (an_axiom «axiom»)) (told result) }
     {
-        axiom.check(
-            self.classes.len() as u8,
-            self.roles.len() as u8,
-            place,
-            Layer::Sheet,
-        )?;
-        if !self.axioms.push(axiom) {
-            return Err(Refusal::TooMany.at(place, Layer::Sheet));
-        }
-        Ok(())
+        axiom.check(self.class_count(), self.role_count(), place, Layer::Sheet)?;
+        self.axioms
+            .try_push(axiom)
+            .map_err(|_| Refusal::TooMany.at(place, Layer::Sheet))
     }
 
     /// Takes in an item that stands at `place`.
     fn add(&mut self, item: Item, place: usize) -> Result<(), Fault>
-        requires { Passes (field_checks (Of.tag (entry_of item)) (Of.body (entry_of item))) }
-        ensures { Answers (entry_checks (held self.old) (entry_of item.entry)) place in_sheet
-            (λ _. held self.new ≡ more (held self.old) (entry_of item.entry)) (told result) }
+        ensures { Answers (entry_checks (held self.old) (entry_of item)) place in_sheet
+            (λ _. held self.new ≡ more (held self.old) (entry_of item)) (told result) }
     {
         match item {
             Item::Class(name) => declare(&mut self.classes, name, place),
             Item::Role(name) => declare(&mut self.roles, name, place),
-            Item::States(axiom) => self.state(axiom, place),
+            Item::Axiom(axiom) => self.state(axiom, place),
         }
     }
 
@@ -104,9 +90,8 @@ impl Sheet {
             return Err(Refusal::SheetTooLong.at(0, Layer::Sheet));
         }
         let mut sheet = Sheet::new();
-        let mut reader = Reader::new(text);
-        while !reader.is_done() {
-            let field = reader.next()?;
+        for field in Reader::new(text) {
+            let field = field?;
             sheet.add(field.item()?, field.place)?;
         }
         Ok(sheet)
@@ -117,7 +102,6 @@ impl Sheet {
         ensures gives { Gives text.now (outcome (told result) (held self.new)) }
         ensures only { (o : Told Contents) → Gives text.now o → o ≡ outcome (told result) (held self.new) }
         ensures kept { OnErr result (self.new ≡ self.old) }
-        ensures keeps { Limits (meaning_of (held self.old)) → Limits (meaning_of (held self.new)) }
     {
         *self = Sheet::parse(text)?;
         Ok(())

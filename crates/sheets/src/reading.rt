@@ -1,36 +1,23 @@
 //! A sheet as a source of axioms, and its names.
-ghost use Rattle.std.specs.Prelude.{◌≡◌, ℕ, ◌<◌, ◌≤◌, [], length, Err, MatchOption, slice_index_or};
-ghost use Rattle.terms.specs.Refusals.{told, refused};
+ghost use Rattle.std.specs.Prelude.{◌≡◌, ◌<◌, ◌≤◌, [], length, MatchOption, slice_index_or};
 ghost use Rattle.sheets.specs.Sheets.{in_sheet, meaning_of};
-ghost use Rattle.sheets.specs.Held.{held, names_in};
+ghost use Rattle.sheets.specs.Lists.{spelled};
+ghost use Rattle.sheets.specs.Held.{held};
 
 use crate::contents::Sheet;
 use crate::name::Name;
-use crate::row::Row;
+use arrayvec::ArrayVec;
 use sources::Source;
-use terms::{Axiom, Fault, Layer, Refusal};
-
-/// A number is past the end of a sheet.
-fn past_end() -> Fault
-    ensures { told {V = ℕ} (Err result) ≡ refused 10 0 in_sheet }
-{
-    Refusal::PastEnd.at(0, Layer::Sheet)
-}
+use terms::{Axiom, Fault, Layer};
 
 /// The bytes of the name at a number, where there is one.
-fn name_at<const N: usize>(names: &Row<Name, N>, number: u8) -> Option<&[u8]>
+fn name_at<const N: usize>(names: &ArrayVec<Name, N>, number: u8) -> Option<&[u8]>
     ensures { MatchOption result
-        (length (names_in names.now.items names.now.len) ≤ number)
-        (λ n. (number < length (names_in names.now.items names.now.len))
-        × (n.now ≡ slice_index_or (names_in names.now.items names.now.len) number [])) }
+        (length (spelled names.now.items) ≤ number)
+        (λ n. (number < length (spelled names.now.items))
+        × (n.now ≡ slice_index_or (spelled names.now.items) number [])) }
 {
-    let all = names.as_slice();
-    let number = usize::from(number);
-    if number < all.len() {
-        Some(all[number].as_bytes())
-    } else {
-        None
-    }
+    names.get(usize::from(number)).map(|name| name.as_slice())
 }
 
 impl Sheet {
@@ -58,6 +45,8 @@ impl Source for Sheet {
 
     ghost layer = { in_sheet };
 
+    ghost limits = { λ s. s.limits };
+
     fn class_count(&self) -> u8 {
         self.classes.len() as u8
     }
@@ -71,25 +60,21 @@ impl Source for Sheet {
     }
 
     fn axiom_at(&self, number: usize) -> Result<Axiom, Fault> {
-        let all = self.axioms.as_slice();
-        if number < all.len() {
-            Ok(all[number])
-        } else {
-            Err(past_end())
-        }
+        self.axioms
+            .get(number)
+            .copied()
+            .ok_or(Layer::Sheet.past_end())
     }
 
     fn name_len(&self, class: u8) -> Result<usize, Fault> {
-        match self.class_name(class) {
-            Some(name) => Ok(name.len()),
-            None => Err(past_end()),
-        }
+        self.class_name(class)
+            .map(|name| name.len())
+            .ok_or(Layer::Sheet.past_end())
     }
 
     fn name_byte(&self, class: u8, index: usize) -> Result<u8, Fault> {
-        match self.class_name(class) {
-            Some(name) if index < name.len() => Ok(name[index]),
-            _ => Err(past_end()),
-        }
+        self.class_name(class)
+            .and_then(|name| name.get(index).copied())
+            .ok_or(Layer::Sheet.past_end())
     }
 }

@@ -6,9 +6,7 @@ use std::test::Fail;
 
 #[test]
 fn on_a_sheet(rt: HostRuntime) -> Result<(), Fail> {
-    let text = payroll(rt.alloc())?;
-    let mut sheet = Sheet::new();
-    sheet.open(text.as_slice())?;
+    let sheet = payroll_sheet(rt.alloc())?;
     assert_eq!(rt; find_class(&sheet, b"payroll"), Some(0));
     assert_eq!(rt; find_class(&sheet, b"finance"), Some(1));
     assert_eq!(rt; find_class(&sheet, b"wages"), Some(2));
@@ -18,9 +16,7 @@ fn on_a_sheet(rt: HostRuntime) -> Result<(), Fail> {
 
 #[test]
 fn absent(rt: HostRuntime) -> Result<(), Fail> {
-    let text = payroll(rt.alloc())?;
-    let mut sheet = Sheet::new();
-    sheet.open(text.as_slice())?;
+    let sheet = payroll_sheet(rt.alloc())?;
     assert_eq!(rt; find_class(&sheet, b"holiday"), None);
     assert_eq!(rt; find_class(&sheet, b"Payroll"), None);
     assert_eq!(rt; find_class(&sheet, b"payrolL"), None);
@@ -30,9 +26,7 @@ fn absent(rt: HostRuntime) -> Result<(), Fail> {
 
 #[test]
 fn prefixes_and_longer_names(rt: HostRuntime) -> Result<(), Fail> {
-    let text = payroll(rt.alloc())?;
-    let mut sheet = Sheet::new();
-    sheet.open(text.as_slice())?;
+    let sheet = payroll_sheet(rt.alloc())?;
     assert_eq!(rt; find_class(&sheet, b"payrol"), None);
     assert_eq!(rt; find_class(&sheet, b"p"), None);
     assert_eq!(rt; find_class(&sheet, b"payrolls"), None);
@@ -45,8 +39,7 @@ fn prefixes_and_longer_names(rt: HostRuntime) -> Result<(), Fail> {
 /// Roles are no classes.
 #[test]
 fn roles_are_not_found(rt: HostRuntime) -> Result<(), Fail> {
-    let mut sheet = Sheet::new();
-    sheet.open(&[2, 0, 1, 0x70, 1, 0, 1, 0x41])?;
+    let sheet = opened(&[2, 0, 1, 0x70, 1, 0, 1, 0x41])?;
     assert_eq!(rt; find_class(&sheet, b"p"), None);
     assert_eq!(rt; find_class(&sheet, b"A"), Some(0));
     Ok(())

@@ -3,7 +3,7 @@ use crate::writing::*;
 use sheets::Sheet;
 use sources::Source;
 use std::test::Fail;
-use terms::Axiom;
+use terms::{Axiom, Refusal};
 
 #[test]
 fn nothing(rt: HostRuntime) {
@@ -13,8 +13,7 @@ fn nothing(rt: HostRuntime) {
 #[test]
 fn one_class(rt: HostRuntime) -> Result<(), Fail> {
     opens(&rt, &[0x01, 0x00, 0x01, 0x41], 1, 0, 0);
-    let mut sheet = Sheet::new();
-    sheet.open(&[0x01, 0x00, 0x01, 0x41])?;
+    let sheet = opened(&[0x01, 0x00, 0x01, 0x41])?;
     assert_eq!(rt; sheet.class_name(0), Some(b"A".as_slice()));
     assert_eq!(rt; sheet.class_name(1), None);
     spells(&rt, &sheet, 0, b"A");
@@ -31,9 +30,7 @@ fn payroll_counts(rt: HostRuntime) -> Result<(), Fail> {
 
 #[test]
 fn payroll_axioms(rt: HostRuntime) -> Result<(), Fail> {
-    let text = payroll(rt.alloc())?;
-    let mut sheet = Sheet::new();
-    sheet.open(text.as_slice())?;
+    let sheet = payroll_sheet(rt.alloc())?;
     assert_eq!(rt; sheet.axiom_at(0), Ok(inclusion(1, 6)));
     assert_eq!(rt; sheet.axiom_at(1), Ok(inclusion(2, 8)));
     assert_eq!(rt; sheet.axiom_at(2), Ok(inclusion(4, 8)));
@@ -42,9 +39,7 @@ fn payroll_axioms(rt: HostRuntime) -> Result<(), Fail> {
 
 #[test]
 fn payroll_names(rt: HostRuntime) -> Result<(), Fail> {
-    let text = payroll(rt.alloc())?;
-    let mut sheet = Sheet::new();
-    sheet.open(text.as_slice())?;
+    let sheet = payroll_sheet(rt.alloc())?;
     let names = [
         (0, b"payroll".as_slice()),
         (1, b"finance".as_slice()),
@@ -68,8 +63,7 @@ fn each_form(rt: HostRuntime) -> Result<(), Fail> {
         field(&mut text, tag, &[0, 1, 2])?;
     }
     field(&mut text, 7, &[1, 2])?;
-    let mut sheet = Sheet::new();
-    sheet.open(text.as_slice())?;
+    let sheet = opened(text.as_slice())?;
     let forms = [
         Axiom::Exists {
             lower: 0,
@@ -109,8 +103,7 @@ fn masks_have_the_high_byte_first(rt: HostRuntime) -> Result<(), Fail> {
         3,
         &[0, 0, 0, 0, 0, 0, 0x01, 0, 0, 0x40, 0, 0, 0, 0, 0, 0],
     )?;
-    let mut sheet = Sheet::new();
-    sheet.open(text.as_slice())?;
+    let sheet = opened(text.as_slice())?;
     assert_eq!(rt; sheet.axiom_at(0), Ok(inclusion(1, 1 << 63)));
     assert_eq!(rt; sheet.axiom_at(1), Ok(inclusion(1 << 8, 1 << 54)));
     Ok(())
@@ -132,7 +125,7 @@ fn mask_of_one_class(rt: HostRuntime) -> Result<(), Fail> {
         3,
         &[0x80, 0, 0, 0, 0, 0, 0, 0, 0, 0, 0, 0, 0, 0, 0, 0],
     )?;
-    refused(&rt, text.as_slice(), 7, 23);
+    refused(&rt, text.as_slice(), Refusal::Undeclared, 23);
     Ok(())
 }
 
@@ -146,8 +139,7 @@ fn declarations_between_axioms(rt: HostRuntime) -> Result<(), Fail> {
     field(&mut text, 2, b"p")?;
     field(&mut text, 4, &[1, 0, 0])?;
     opens(&rt, text.as_slice(), 2, 1, 3);
-    let mut sheet = Sheet::new();
-    sheet.open(text.as_slice())?;
+    let sheet = opened(text.as_slice())?;
     assert_eq!(rt; sheet.axiom_at(0), Ok(inclusion(1, 1)));
     assert_eq!(rt; sheet.axiom_at(1), Ok(inclusion(2, 1)));
     spells(&rt, &sheet, 1, b"B");

@@ -5,6 +5,7 @@ use sources::Source;
 use std::alloc::{AllocError, Global};
 use std::process::Abort;
 use std::test::Fail;
+use terms::Refusal;
 
 /// The payroll sheet with two roles and an axiom more.
 fn payroll_with_roles(heap: Global) -> Result<Vec<u8>, AllocError> {
@@ -16,15 +17,10 @@ fn payroll_with_roles(heap: Global) -> Result<Vec<u8>, AllocError> {
 }
 
 /// Opens one text and then the other, which is to be refused so, and compares the sheet with the first text's.
-fn keeps(rt: &impl Abort, good: &[u8], bad: &[u8], number: u8) -> Result<(), Fail> {
-    let mut wanted = Sheet::new();
-    wanted.open(good)?;
-    let mut sheet = Sheet::new();
-    sheet.open(good)?;
-    match sheet.open(bad) {
-        Ok(()) => return Err(Fail::new("the second text opens")),
-        Err(fault) => assert_eq!(rt; fault.kind.number(), number),
-    }
+fn keeps(rt: &impl Abort, good: &[u8], bad: &[u8], kind: Refusal) -> Result<(), Fail> {
+    let wanted = opened(good)?;
+    let mut sheet = opened(good)?;
+    assert_eq!(rt; sheet.open(bad).map_err(|fault| fault.kind), Err(kind));
     assert!(rt; agree(&sheet, &wanted));
     for role in 0..17 {
         assert_eq!(rt; sheet.role_name(role), wanted.role_name(role));
@@ -35,29 +31,37 @@ fn keeps(rt: &impl Abort, good: &[u8], bad: &[u8], number: u8) -> Result<(), Fai
 #[test]
 fn refusals_change_nothing(rt: HostRuntime) -> Result<(), Fail> {
     let good = payroll_with_roles(rt.alloc())?;
-    keeps(&rt, good.as_slice(), &[1], 2)?;
-    keeps(&rt, good.as_slice(), &[8, 0, 0], 3)?;
-    keeps(&rt, good.as_slice(), &[1, 0, 0], 4)?;
-    keeps(&rt, good.as_slice(), &[1, 0, 1, 32], 5)
+    keeps(&rt, good.as_slice(), &[1], Refusal::CutShort)?;
+    keeps(&rt, good.as_slice(), &[8, 0, 0], Refusal::UnknownTag)?;
+    keeps(&rt, good.as_slice(), &[1, 0, 0], Refusal::WrongLength)?;
+    keeps(&rt, good.as_slice(), &[1, 0, 1, 32], Refusal::NameByte)
 }
 
 /// Nor where good fields stand before the one that is refused.
 #[test]
 fn late_refusals_change_nothing(rt: HostRuntime) -> Result<(), Fail> {
     let good = payroll_with_roles(rt.alloc())?;
-    keeps(&rt, good.as_slice(), &[1, 0, 1, 0x41, 1, 0, 1, 0x41], 6)?;
-    keeps(&rt, good.as_slice(), &[2, 0, 1, 0x41, 7, 0, 2, 0, 1], 7)?;
+    keeps(
+        &rt,
+        good.as_slice(),
+        &[1, 0, 1, 0x41, 1, 0, 1, 0x41],
+        Refusal::NameRepeated,
+    )?;
+    keeps(
+        &rt,
+        good.as_slice(),
+        &[2, 0, 1, 0x41, 7, 0, 2, 0, 1],
+        Refusal::Undeclared,
+    )?;
     let mut bad = good.clone()?;
     field(&mut bad, 1, b"other")?;
     field(&mut bad, 3, &masks(15, 1))?;
-    keeps(&rt, good.as_slice(), bad.as_slice(), 8)
+    keeps(&rt, good.as_slice(), bad.as_slice(), Refusal::TooWide)
 }
 
 #[test]
 fn opening_again_replaces(rt: HostRuntime) -> Result<(), Fail> {
-    let text = payroll_with_roles(rt.alloc())?;
-    let mut sheet = Sheet::new();
-    sheet.open(text.as_slice())?;
+    let mut sheet = opened(payroll_with_roles(rt.alloc())?.as_slice())?;
     sheet.open(&[1, 0, 1, 0x41, 2, 0, 1, 0x70])?;
     assert_eq!(rt; counts(&sheet), (1, 1, 0));
     assert!(rt; is_named(sheet.class_name(0), b"A"));
@@ -70,9 +74,7 @@ fn opening_again_replaces(rt: HostRuntime) -> Result<(), Fail> {
 
 #[test]
 fn the_empty_text_empties(rt: HostRuntime) -> Result<(), Fail> {
-    let text = payroll_with_roles(rt.alloc())?;
-    let mut sheet = Sheet::new();
-    sheet.open(text.as_slice())?;
+    let mut sheet = opened(payroll_with_roles(rt.alloc())?.as_slice())?;
     sheet.open(&[])?;
     assert_eq!(rt; counts(&sheet), (0, 0, 0));
     assert!(rt; sheet.class_name(0).is_none());

@@ -1,16 +1,6 @@
 //! Sets of classes.
-use std::alloc::{AllocError, Global};
 use std::test::Fail;
 use terms::ClassSet;
-
-/// The classes that going through the set gives, in order.
-fn rising(heap: Global, set: ClassSet) -> Result<Vec<u8>, AllocError> {
-    let mut all = Vec::new(heap);
-    for class in set.classes() {
-        all.push(class)?;
-    }
-    Ok(all)
-}
 
 fn full() -> ClassSet {
     ClassSet::from_bits(u64::MAX)
@@ -65,18 +55,19 @@ fn highest_and_len(rt: HostRuntime) {
 #[test]
 fn going_through_some(rt: HostRuntime) -> Result<(), Fail> {
     let set = ClassSet::from_bits(0x8000_0001_0000_0029);
-    let all = rising(rt.alloc(), set)?;
+    let all: Vec<u8> = set.classes().collect(rt.alloc())?;
     assert_eq!(rt; all.as_slice(), [0, 3, 5, 32, 63].as_slice());
     let ends = ClassSet::single(63).with(0);
-    assert_eq!(rt; rising(rt.alloc(), ends)?.as_slice(), [0, 63].as_slice());
+    let ends: Vec<u8> = ends.classes().collect(rt.alloc())?;
+    assert_eq!(rt; ends.as_slice(), [0, 63].as_slice());
     Ok(())
 }
 
 #[test]
 fn going_through_none_and_all(rt: HostRuntime) -> Result<(), Fail> {
-    let none = rising(rt.alloc(), ClassSet::empty())?;
+    let none: Vec<u8> = ClassSet::empty().classes().collect(rt.alloc())?;
     assert!(rt; none.is_empty());
-    let all = rising(rt.alloc(), full())?;
+    let all: Vec<u8> = full().classes().collect(rt.alloc())?;
     assert_eq!(rt; all.len(), 64);
     for (i, class) in all.iter().enumerate() {
         assert_eq!(rt; usize::from(*class), i);

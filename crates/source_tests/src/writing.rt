@@ -1,12 +1,10 @@
 //! Writing sheets, and what the tests share.
-ghost use Rattle.sources.specs.Meanings.{Limits};
-
 use sheets::Sheet;
 use sources::Source;
 use std::alloc::{AllocError, Global};
 use std::process::Abort;
 use std::test::Fail;
-use terms::{Axiom, ClassSet, Fault, Layer};
+use terms::{Axiom, ClassSet, Fault, Layer, Refusal};
 
 /// Appends a field.
 pub fn field(out: &mut Vec<u8>, tag: u8, body: &[u8]) -> Result<(), AllocError> {
@@ -33,6 +31,7 @@ pub fn masks(lower: u64, upper: u64) -> [u8; 16] {
 }
 
 /// The inclusion with these masks.
+// The test crates share nothing but the crates under test.
 pub fn inclusion(lower: u64, upper: u64) -> Axiom {
     Axiom::Inclusion {
         lower: ClassSet::from_bits(lower),
@@ -53,18 +52,21 @@ pub fn payroll(heap: Global) -> Result<Vec<u8>, AllocError> {
     Ok(text)
 }
 
-/// The number, place and layer of a refusal, or `None` where there is none.
-pub fn refusal<T: Drop>(res: Result<T, Fault>) -> Option<(u8, usize, Layer)> {
-    match res {
-        Ok(_) => None,
-        Err(fault) => Some((fault.kind.number(), fault.place, fault.layer)),
-    }
+/// The sheet that a text gives.
+pub fn opened(text: &[u8]) -> Result<Sheet, Fault> {
+    let mut sheet = Sheet::new();
+    sheet.open(text)?;
+    Ok(sheet)
+}
+
+/// The payroll sheet, opened.
+pub fn payroll_sheet(heap: Global) -> Result<Sheet, Fail> {
+    let text = payroll(heap)?;
+    Ok(opened(text.as_slice())?)
 }
 
 /// How many classes, roles and axioms a source has.
-pub fn counts<S: Source>(source: &S) -> (u8, u8, usize)
-    requires { Limits (S.Source.meaning source.now) }
-{
+pub fn counts<S: Source>(source: &S) -> (u8, u8, usize) {
     (
         source.class_count(),
         source.role_count(),
@@ -75,15 +77,15 @@ pub fn counts<S: Source>(source: &S) -> (u8, u8, usize)
 /// Opens the text, which is to have so many classes, roles and axioms.
 pub fn opens(rt: &impl Abort, text: &[u8], classes: u8, roles: u8, axioms: usize) {
     let mut sheet = Sheet::new();
-    assert_eq!(rt; refusal(sheet.open(text)), None, "opening {text:?}");
+    assert_eq!(rt; sheet.open(text), Ok(()), "opening {text:?}");
     assert_eq!(rt; counts(&sheet), (classes, roles, axioms), "of {text:?}");
 }
 
-/// Opens the text, which is to be refused with the number at the place, and to leave the sheet empty.
-pub fn refused(rt: &impl Abort, text: &[u8], number: u8, place: usize) {
+/// Opens the text, which is to be refused for that at the place, and to leave the sheet empty.
+pub fn refused(rt: &impl Abort, text: &[u8], kind: Refusal, place: usize) {
     let mut sheet = Sheet::new();
-    let wanted = Some((number, place, Layer::Sheet));
-    assert_eq!(rt; refusal(sheet.open(text)), wanted, "opening {text:?}");
+    let wanted = Err(kind.at(place, Layer::Sheet));
+    assert_eq!(rt; sheet.open(text), wanted, "opening {text:?}");
     assert_eq!(rt; counts(&sheet), (0, 0, 0));
 }
 
@@ -96,43 +98,20 @@ pub fn spells<S: Source>(rt: &impl Abort, source: &S, class: u8, name: &[u8]) {
 }
 
 /// Whether two sources have the same counts, axioms and names.
-pub fn agree<S: Source, T: Source>(one: &S, other: &T) -> bool
-    requires one { Limits (S.Source.meaning one.now) }
-    requires other { Limits (T.Source.meaning other.now) }
-{
-    if counts(one) != counts(other) {
-        return false;
-    }
-    for i in 0..one.axiom_count() {
-        if one.axiom_at(i) != other.axiom_at(i) {
-            return false;
-        }
-    }
-    for class in 0..one.class_count() {
-        if !same_name(one, other, class) {
-            return false;
-        }
-    }
-    true
+pub fn agree<S: Source, T: Source>(one: &S, other: &T) -> bool {
+    counts(one) == counts(other)
+        && (0..one.axiom_count()).all(|i| one.axiom_at(i) == other.axiom_at(i))
+        && (0..one.class_count()).all(|class| same_name(one, other, class))
 }
 
 /// Whether a class has the same name in both sources.
 fn same_name<S: Source, T: Source>(one: &S, other: &T, class: u8) -> bool {
-    if one.name_len(class) != other.name_len(class) {
-        return false;
-    }
-    for i in 0..40 {
-        if one.name_byte(class, i) != other.name_byte(class, i) {
-            return false;
-        }
-    }
-    true
+    one.name_len(class) == other.name_len(class)
+        && (0..40).all(|i| one.name_byte(class, i) == other.name_byte(class, i))
 }
 
 /// Whether a name was found, and is just this one.
+// The two names have lifetimes of their own, which an `assert_eq!` of two options does not keep apart.
 pub fn is_named(found: Option<&[u8]>, wanted: &[u8]) -> bool {
-    match found {
-        Some(name) => name == wanted,
-        None => false,
-    }
+    found.is_some_and(|name| name == wanted)
 }

@@ -1,8 +1,7 @@
 -- Opening a record table has one outcome, and an open table keeps its limits.
-use Rattle.std.proofs.Common.{◌≡◌, ℕ, ◌<◌, ◌≤◌, ◌⊎◌, List, [], length, get_or, take, sym, refl, ap, ◌∙◌, subst, inl, inr, arith}
-use lib.ListN.{length-replicate, get_or-replicate}
+use Rattle.std.proofs.Common.{◌≡◌, ℕ, ◌<◌, ◌≤◌, ◌⊎◌, List, length, get_or, take, sym, refl, ◌∙◌, subst, inl, inr, arith}
 use Rattle.std.specs.List.{AllByRecursion}
-use Rattle.std.proofs.ByRecursion.{All-get_or, All-from_get_or}
+use Rattle.std.proofs.ByRecursion.{All-get_or}
 use Rattle.std.proofs.lemmas.List.{get_or-take, length-take-le}
 use Rattle.std.proofs.lemmas.Bool.{cases_order}
 use Rattle.terms.specs.declared.axioms.Axiom.{Axiom}
@@ -10,20 +9,7 @@ use Rattle.terms.specs.declared.refusals.Layer.{Layer}
 use Rattle.terms.specs.Axioms.{WellFormed, axiom_checks, blank}
 use Rattle.terms.specs.Refusals.{Told, done, refused, end, FirstFailing}
 use Rattle.terms.proofs.Checking.{first_not_passed, first_one}
-use Rattle.sources.specs.Meanings.{Limits}
-use Rattle.sources.specs.Tables.{in_table, table_meaning, Sized, Stops, Opening}
-
-pub table_keeps : (c r : ℕ) (xs : List Axiom) → Sized c r xs → AllByRecursion (WellFormed c r) xs → Limits (table_meaning c r xs)
-table_keeps c r xs s w = record {
-  few_classes = s.0;
-  few_roles = s.1;
-  few_axioms = s.2;
-  formed = w;
-  each_named = length-replicate c [];
-  short_names = All-from_get_or (λ n. length n ≤ 40) _ [] (λ i h.
-      let i< : i < c = omega (arith, length-replicate {A = List ℕ} c []) in
-      omega (arith, ap length (get_or-replicate {A = List ℕ} c i [] [] i<)));
-}
+use Rattle.sources.specs.Tables.{in_table, Sized, Stops, Opening}
 
 module _ (c r : ℕ) (xs : List Axiom) where
   -- opening stops at record i

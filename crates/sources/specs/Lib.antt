@@ -1,3 +1,4 @@
 pub mod Meanings
 pub mod Tables
 pub mod Names
+pub mod Limiting

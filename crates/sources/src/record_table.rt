@@ -1,7 +1,8 @@
 //! A table of axiom records that the caller holds.
-ghost use Rattle.std.specs.Prelude.{◌≡◌, ℕ, [], Err, MatchResult};
-ghost use Rattle.terms.specs.Refusals.{Told, told, refused};
+ghost use Rattle.std.specs.Prelude.{◌≡◌, [], MatchResult};
+ghost use Rattle.terms.specs.Refusals.{Told, told};
 ghost use Rattle.sources.specs.Meanings.{Limits};
+ghost use Rattle.sources.specs.Limiting.{limits_prop};
 ghost use Rattle.sources.specs.Tables.{in_table, table_meaning, Opening};
 
 use crate::source::{MOST_AXIOMS, MOST_ROLES, Source};
@@ -13,13 +14,7 @@ pub struct RecordTable<'a> {
     classes: u8,
     roles: u8,
     records: &'a [Axiom],
-}
-
-/// A number is past the end of a table.
-fn past_end() -> Fault
-    ensures { told {V = ℕ} (Err result) ≡ refused 10 0 in_table }
-{
-    Refusal::PastEnd.at(0, Layer::RecordTable)
+    ghost limits: { Limits (table_meaning classes roles records.now) } by { limits_prop _ },
 }
 
 /// Refuses too many classes, roles or records, and then the first record that is not well formed.
@@ -38,8 +33,7 @@ fn check(classes: u8, roles: u8, records: &[Axiom]) -> Result<(), Fault>
 impl<'a> RecordTable<'a> {
     /// The empty table: no classes, roles or records.
     pub fn new() -> Self
-        ensures empty { table_meaning result.classes result.roles result.records.now ≡ table_meaning 0 0 [] }
-        ensures keeps { Limits (table_meaning result.classes result.roles result.records.now) }
+        ensures { table_meaning result.classes result.roles result.records.now ≡ table_meaning 0 0 [] }
     {
         RecordTable {
             classes: 0,
@@ -55,8 +49,6 @@ impl<'a> RecordTable<'a> {
         ensures after { MatchResult result
             (λ _. table_meaning self.new.classes self.new.roles self.new.records.now ≡ table_meaning classes roles records.now)
             (λ _. self.new ≡ self.old) }
-        ensures keeps { Limits (table_meaning self.old.classes self.old.roles self.old.records.now)
-            → Limits (table_meaning self.new.classes self.new.roles self.new.records.now) }
     {
         check(classes, roles, records)?;
         *self = RecordTable {
@@ -73,6 +65,8 @@ impl<'a> Source for RecordTable<'a> {
 
     ghost layer = { in_table };
 
+    ghost limits = { λ t. t.limits };
+
     fn class_count(&self) -> u8 {
         self.classes
     }
@@ -86,22 +80,21 @@ impl<'a> Source for RecordTable<'a> {
     }
 
     fn axiom_at(&self, number: usize) -> Result<Axiom, Fault> {
-        if number < self.records.len() {
-            Ok(self.records[number])
-        } else {
-            Err(past_end())
-        }
+        self.records
+            .get(number)
+            .copied()
+            .ok_or(Layer::RecordTable.past_end())
     }
 
     fn name_len(&self, class: u8) -> Result<usize, Fault> {
         if class < self.classes {
             Ok(0)
         } else {
-            Err(past_end())
+            Err(Layer::RecordTable.past_end())
         }
     }
 
     fn name_byte(&self, _class: u8, _index: usize) -> Result<u8, Fault> {
-        Err(past_end())
+        Err(Layer::RecordTable.past_end())
     }
 }

@@ -15,9 +15,8 @@ pub const MOST_AXIOMS: usize = 1024;
 
 /// A list of axioms over numbered classes and roles, the classes with names.
 ///
-/// It answers from its meaning, changes nothing, and refuses a number past the end. Its contracts speak of a source that keeps
-/// its limits: at most 64 classes, 16 roles and 1,024 axioms, each axiom over these and with at most three classes on the left, and
-/// names of at most 40 bytes.
+/// It answers from its meaning, changes nothing, and refuses a number past the end. By law it keeps its limits: at most 64 classes,
+/// 16 roles and 1,024 axioms, each axiom over these and with at most three classes on the left, and names of at most 40 bytes.
 pub trait Source {
     /// The class count, role count, names and axioms.
     ghost meaning: { Self → Meaning };
@@ -35,12 +34,10 @@ pub trait Source {
 
     /// How many axioms there are.
     fn axiom_count(&self) -> usize
-        requires { Limits (meaning self.now) }
         ensures { result ≡ length (meaning self.now).axioms };
 
     /// The axiom at a number.
     fn axiom_at(&self, number: usize) -> Result<Axiom, Fault>
-        requires { Limits (meaning self.now) }
         ensures there { number < length (meaning self.now).axioms → told result ≡ done (slice_index_or (meaning self.now).axioms number blank) }
         ensures past { length (meaning self.now).axioms ≤ number → told result ≡ refused 10 0 layer };
 
@@ -54,6 +51,9 @@ pub trait Source {
         ensures there { class < (meaning self.now).classes → index < length (name_of (meaning self.now) class) → told result ≡ done (slice_index (name_of (meaning self.now) class) index) }
         ensures past { class < (meaning self.now).classes → length (name_of (meaning self.now) class) ≤ index → told result ≡ refused 10 0 layer }
         ensures absent { (meaning self.now).classes ≤ class → told result ≡ refused 10 0 layer };
+
+    /// Every source keeps the limits.
+    ghost limits: { (s : Self) → Limits (meaning s) };
 }
 
 /// A lent source is a source.
@@ -61,6 +61,8 @@ impl<'a, S: Source> Source for &'a S {
     ghost meaning = { λ s. S.Source.meaning s.now };
 
     ghost layer = { S.Source.layer };
+
+    ghost limits = { λ s. S.Source.limits s.now };
 
     fn class_count(&self) -> u8 {
         (**self).class_count()

@@ -1,31 +1,22 @@
 -- The laws of adding: nothing, one record, one thing after another, and what each slot of a list gives.
 use Rattle.std.proofs.Common.{◌≡◌, ℕ, ◌+◌, ◌<◌, ◌≤◌, ◌⊎◌, List, get_or, Ok, Err, Result, sym, refl, ap, ◌∙◌, subst, inl, inr, ⊎_elim, arith}
+use Rattle.std.specs.Result.{IsErrAnd}
 use Rattle.tables.specs.declared.records.ContextRecord.{ContextRecord}
 use Rattle.tables.specs.declared.records.ClauseRecord.{ClauseRecord}
 use Rattle.tables.specs.declared.entering.Full.{Full}
 use Rattle.tables.specs.declared.members.Counts.{Counts}
-use Rattle.tables.specs.Entering.{Holds, Among, Kept, Entered, Refused}
+use Rattle.tables.specs.Entering.{Holds, Among, Entered, Refused}
 use Rattle.tables.specs.Tables.{Tables, tables, Member, a_context, a_clause, blank, context_of, context_in, clause_of, Cites, In, Good}
-use Rattle.tables.specs.Adding.{Extends, Grows, Adds, Stuck, Enters, Below}
+use Rattle.tables.specs.Adding.{Extends, Grows, Adds, Stuck, Ends, Below}
 use Rattle.tables.proofs.Slots.{at_or_below, holds_one, holds_get_or, among_upto, among_kept, extends_refl, extends_then}
 use Rattle.tables.proofs.Entries.{entered_fits, entered_extends, entered_there, entered_only, entered_apart}
 use Rattle.tables.proofs.Meanings.{clause_of_kept, cites_upto, context_of_one, clause_of_one}
 
 -- ---- tables that grow from nothing
 
-module _ (xs : List ContextRecord) (ys : List ClauseRecord) where
-  pub none_good : Good (tables xs ys (record { contexts = 0; clauses = 0 }))
-  none_good = record {
-    contexts_fit = omega arith;
-    clauses_fit = omega arith;
-    cited = λ x a. absurd (let h = a.below in omega arith);
-    contexts_apart = λ j k jk l. absurd (omega arith);
-    clauses_apart = λ j k jk l. absurd (omega arith);
-  }
-
-  pub none_in : (m : Member) → In (tables xs ys (record { contexts = 0; clauses = 0 })) m → ⊥
-  none_in (a_context K) a = let h = a.among.below in omega arith
-  none_in (a_clause c) a = let h = a.among.below in omega arith
+pub none_in : (s : Tables) → s.used.contexts ≡ 0 → s.used.clauses ≡ 0 → (m : Member) → In s m → ⊥
+none_in s c d (a_context K) a = let h = a.among.below in omega (arith, c)
+none_in s c d (a_clause e) a = let h = a.among.below in omega (arith, d)
 
 pub grows_refl : {s : Tables} → Good s → Grows s s
 grows_refl {s} g = record { good = g; contexts = extends_refl s.contexts s.used.contexts; clauses = extends_refl s.clauses s.used.clauses }
@@ -46,9 +37,6 @@ in_on g w (a_clause c) a = record {
 module _ {s : Tables} (g : Good s) (k : ℕ) where
   pub in_context_slot : k < s.used.contexts → In s (a_context (context_in s.contexts k))
   in_context_slot l = record { by = get_or s.contexts k blank; among = record { slot = k; below = l; holds = holds_get_or s.contexts k blank (omega (arith, g.contexts_fit)) }; means = refl }
-
-  pub in_clause_slot : (d : ClauseRecord) → k < s.used.clauses → In s (a_clause (clause_of s.contexts (get_or s.clauses k d)))
-  in_clause_slot d l = record { by = get_or s.clauses k d; among = record { slot = k; below = l; holds = holds_get_or s.clauses k d (omega (arith, g.clauses_fit)) }; means = refl }
 
 -- ---- one record
 
@@ -173,14 +161,20 @@ module _ {C D E : Member → Type 0} {s u v : Tables} where
 
 -- ---- the same of a call, by its result
 
-pub enters_as : {C E : Member → Type 0} (s : Tables) (u : Counts → Tables) (r : Result Counts Full) → Enters C s u r → ((m : Member) → E m → C m) → ((m : Member) → C m → E m) → Enters E s u r
-enters_as s u (Ok n) p to from = adds_as p to from
-enters_as s u (Err f) p to from = (p.0, stuck_as p.1 from)
+module _ {C : Member → Type 0} {X : Type 0} (s u : Tables) where
+  pub ends_as : {E : Member → Type 0} (r : Result X Full) → Ends C s u r → ((m : Member) → E m → C m) → ((m : Member) → C m → E m) → Ends E s u r
+  ends_as (Ok n) p to from = adds_as p to from
+  ends_as (Err f) p to from = stuck_as p from
 
-pub enters_then : {C D E : Member → Type 0} {s v : Tables} (u : Counts → Tables) (r : Result Counts Full) → Adds C s v → Enters D v u r
-    → ((m : Member) → E m → C m ⊎ D m) → ((m : Member) → C m → E m) → ((m : Member) → D m → E m) → Enters E s u r
-enters_then u (Ok n) p q split left right = adds_then p q split left right
-enters_then u (Err f) p q split left right = (q.0, stuck_then p q.1 left right)
+  pub ends_then : {D E : Member → Type 0} {v : Tables} (r : Result X Full) → Adds C s v → Ends D v u r
+      → ((m : Member) → E m → C m ⊎ D m) → ((m : Member) → C m → E m) → ((m : Member) → D m → E m) → Ends E s u r
+  ends_then (Ok n) p q split left right = adds_then p q split left right
+  ends_then (Err f) p q split left right = stuck_then p q left right
+
+  -- the error of a step is handed on
+  pub ends_stuck : (P : Full → Type 0) (r : Result X Full) → IsErrAnd r P → Stuck C s u → Ends C s u r
+  ends_stuck P (Ok n) e p = absurd e
+  ends_stuck P (Err f) e p = p
 
 -- ---- a loop over the slots of a list: what those below k give is there, then what slot k gives is added
 
@@ -213,7 +207,3 @@ module _ {Z : Type 0} {w : List Z} {Q : Z → Member → Type 0} where
   -- the loop is over
   pub below_end : {s u : Tables} {i k : ℕ} → k ≤ i → i ≤ k → Adds (Below w k Q) s u → Adds (Below w i Q) s u
   below_end l g p = adds_as p (λ m b. below_upto g b) (λ m b. below_upto l b)
-
--- the same slots of a list that begins alike
-pub below_swap : {Z : Type 0} {w v : List Z} {n k i : ℕ} {Q R : Z → Member → Type 0} {m : Member} → Kept w v n → k ≤ n → k ≤ i → ((z : Z) → Q z m → R z m) → Below w k Q m → Below v i R m
-below_swap h l up f b = record { by = b.by; among = among_upto up (among_kept h l b.among); gives = f b.by b.gives }

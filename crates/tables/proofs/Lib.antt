@@ -1,6 +1,9 @@
 pub mod Slots
+pub mod Tops
+pub mod Finding
 pub mod Entries
 pub mod Meanings
 pub mod Additions
 pub mod Counting
 pub mod Successors
+pub mod Lending

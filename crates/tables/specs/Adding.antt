@@ -43,6 +43,10 @@ pub record Stuck (C : Member → Type 0) (s u : Tables) : Type 0 where
 abbrev pub Enters : (Member → Type 0) → Tables → (Counts → Tables) → Result Counts Full → Type 0
 Enters C s u r = MatchResult r (λ n. Adds C s (u n)) (λ _. (n : Counts) × Stuck C s (u n))
 
+-- the same of tables that keep their own counts
+abbrev pub Ends : {X : Type 0} → (Member → Type 0) → Tables → Tables → Result X Full → Type 0
+Ends C s u r = MatchResult r (λ _. Adds C s u) (λ _. Stuck C s u)
+
 -- what the first k slots of a list give, each what Q says of it
 pub record Below {Z : Type 0} (xs : List Z) (k : ℕ) (Q : Z → Member → Type 0) (m : Member) : Type 0 where
   pub by : Z

@@ -1,5 +1,7 @@
 -- What the two tables mean, in the closure's own words.
 use Rattle.std.specs.Prelude.{◌≡◌, ℕ, ◌<◌, ◌≤◌, List, map, length, take, Some, None, Option, slice_index_or}
+use Rattle.std.specs.Coded.{×_prop, Unit-prop, le_prop}
+use mathlib.Core.HLevel.{⊥_prop}
 use Rattle.terms.specs.Axioms.{set_of}
 use Rattle.terms.specs.declared.axioms.Axiom.{Axiom}
 use Rattle.closure.specs.Closures.{Context, context, Part, plain, toward, Clause, clause, InContexts, InClauses}
@@ -80,3 +82,20 @@ pub record Good (s : Tables) : Type 0 where
   pub cited : (x : ClauseRecord) → Among s.clauses s.used.clauses x → Cites s.used.contexts x
   pub contexts_apart : Apart s.contexts s.used.contexts
   pub clauses_apart : Apart s.clauses s.used.clauses
+
+-- any two proofs of it are the same, so that a value can carry one
+pub PartCites-prop : (n : ℕ) (p : Option RolePart) → IsProp (PartCites n p)
+PartCites-prop n None = Unit-prop
+PartCites-prop n (Some r) = le_prop
+
+Cites-prop : (n : ℕ) (x : ClauseRecord) → IsProp (Cites n x)
+Cites-prop n x = ×_prop le_prop (PartCites-prop n x.part)
+
+pub Good-prop : (s : Tables) → IsProp (Good s)
+Good-prop s g h = λ i. record {
+  contexts_fit = le_prop g.contexts_fit h.contexts_fit i;
+  clauses_fit = le_prop g.clauses_fit h.clauses_fit i;
+  cited = λ x a. Cites-prop s.used.contexts x (g.cited x a) (h.cited x a) i;
+  contexts_apart = λ j k jk l x p q. ⊥_prop (g.contexts_apart j k jk l x p q) (h.contexts_apart j k jk l x p q) i;
+  clauses_apart = λ j k jk l x p q. ⊥_prop (g.clauses_apart j k jk l x p q) (h.clauses_apart j k jk l x p q) i;
+}

@@ -1,26 +1,21 @@
 //! Entering records into a table, each once.
-ghost use Rattle.std.specs.Prelude.{◌≡◌, ◌≤◌, length, Decides, MatchResult};
+ghost use Rattle.std.specs.Prelude.{◌≡◌, ◌≤◌, ◌↔◌, length, position, true, MatchResult};
+ghost use Rattle.std.proofs.Common.{rules};
 ghost use Rattle.tables.specs.Entering.{Entered, Refused};
 
 use crate::records::{ClauseRecord, ContextRecord};
 
-/// Values of which two can be compared.
-pub trait Same {
-    /// Whether the two are equal.
-    fn same(&self, other: &Self) -> bool
-        ensures { Decides result (self.now ≡ other.now) };
+/// Values of which `==` says whether they are the same.
+pub trait Same: PartialEq {
+    ghost decides: { (a b : Self) → Self.eq a b ≡ true ↔ a ≡ b };
 }
 
 impl Same for ContextRecord {
-    fn same(&self, other: &Self) -> bool {
-        self.held == other.held && self.denied == other.denied
-    }
+    ghost decides = { Prim.search rules };
 }
 
 impl Same for ClauseRecord {
-    fn same(&self, other: &Self) -> bool {
-        self.context == other.context && self.classes == other.classes && self.part == other.part
-    }
+    ghost decides = { Prim.search rules };
 }
 
 /// There was no slot left.
@@ -34,18 +29,24 @@ pub struct Place {
     pub used: usize,
 }
 
-/// Finds the record among the first `used` slots, or puts it into the next one; where there is none, the table stays as it was.
+/// The first slot that holds the record.
+fn find<R: Same + Copy>(slots: &[R], record: R) -> Option<usize>
+    ensures { result ≡ position (λ x. R.eq x «record») slots.now }
+{
+    slots.iter().position(|held| *held == record)
+}
+
+/// Finds the record among the first `used` slots, or puts it into the next one; where no slot is left, the table stays as it was.
 /// The caller's count is never above the number of slots: a count comes from here, and grows only where a slot was free.
+// The table is lent whole and filled from the front, so the count of used slots stands beside it.
 pub fn enter<R: Same + Copy>(table: &mut [R], used: usize, record: R) -> Result<Place, Full>
     requires { used ≤ length table.old }
     ensures { MatchResult result
         (λ p. Entered table.old used «record» table.new p.slot p.used)
         (λ _. Refused table.old used «record» table.new) }
 {
-    for i in 0..used {
-        if table[i].same(&record) {
-            return Ok(Place { slot: i, used });
-        }
+    if let Some(slot) = find(&table[..used], record) {
+        return Ok(Place { slot, used });
     }
     if used == table.len() {
         return Err(Full);

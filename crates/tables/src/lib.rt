@@ -8,11 +8,13 @@
 ghost use Rattle.tables.specs.Filling.{EachOnce, CountsRight, FullRight, FitsRight};
 
 pub mod entering;
+pub mod lent;
 pub mod members;
 pub mod records;
 
 pub use entering::{Full, Place, Same, enter};
-pub use members::{ContextPlace, Counts, enter_clause, enter_context, enter_toward};
+pub use lent::LentTables;
+pub use members::Counts;
 pub use records::{ClauseRecord, ContextRecord, RolePart};
 
 /// Good tables have each member once. Where they were filled with the closure, their counts are its numbers of contexts and clauses;

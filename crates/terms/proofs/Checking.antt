@@ -19,18 +19,7 @@ first_one (check k P rest) m n (inl f) (inr g) = absurd (f.1 g.0)
 first_one (check k P rest) m n (inr f) (inl g) = absurd (g.1 f.0)
 first_one (check k P rest) m n (inr f) (inr g) = first_one rest m n f.1 g.1
 
--- ---- the checks of an axiom, with others behind them
-
-pub axiom_first : (c r : ℕ) (a : Axiom) (rest : Checks) (n : ℕ) → FirstFailing (axiom_checks c r a end) n → FirstFailing (axiom_checks c r a rest) n
-axiom_first c r a rest n (inl f) = inl f
-axiom_first c r a rest n (inr (p, inl f)) = inr (p, inl f)
-axiom_first c r a rest n (inr (p, inr (q, f))) = absurd f
-
-pub axiom_passed : (c r : ℕ) (a : Axiom) (rest : Checks) → Passes (axiom_checks c r a end) → Passes rest → Passes (axiom_checks c r a rest)
-axiom_passed c r a rest p q = (p.0, (p.1.0, q))
-
-pub axiom_later : (c r : ℕ) (a : Axiom) (rest : Checks) (n : ℕ) → Passes (axiom_checks c r a end) → FirstFailing rest n → FirstFailing (axiom_checks c r a rest) n
-axiom_later c r a rest n p f = inr (p.0, inr (p.1.0, f))
+-- ---- the checks of an axiom
 
 pub axiom_formed : (c r : ℕ) (a : Axiom) → Passes (axiom_checks c r a end) → WellFormed c r a
 axiom_formed c r a p = (p.0, p.1.0)

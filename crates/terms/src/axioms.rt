@@ -1,5 +1,6 @@
 //! The five forms of axiom.
-ghost use Rattle.std.specs.Prelude.{Decides};
+ghost use Rattle.std.specs.Prelude.{◌≡◌, Decides};
+ghost use Rattle.terms.specs.declared.axioms.Axiom.TheVariants.{RoleInclusion};
 ghost use Rattle.terms.specs.Axioms.{Declared, Narrow, axiom_checks};
 ghost use Rattle.terms.specs.Refusals.{Answers, end, told};
 
@@ -21,31 +22,41 @@ pub enum Axiom {
     RoleInclusion { sub: u8, sup: u8 },
 }
 
+/// An axiom that every world obeys, to fill a place with.
+impl Default for Axiom {
+    ghost is_default = { λ x. x ≡ RoleInclusion 0 0 };
+
+    fn default() -> Self {
+        Axiom::RoleInclusion { sub: 0, sup: 0 }
+    }
+}
+
 impl Axiom {
     /// An inclusion has at most this many classes on the left.
     pub const MOST_LOWER: u32 = 3;
 
     /// Whether the axiom speaks only of classes below `classes` and roles below `roles`.
+    // How many classes and how many roles there are is asked of a source apart, so callers have two numbers.
     pub fn is_declared(self, classes: u8, roles: u8) -> bool
         ensures { Decides result (Declared classes roles self) }
     {
         match self {
             Axiom::Inclusion { lower, upper } => lower.is_below(classes) && upper.is_below(classes),
             Axiom::Exists {
-                lower,
+                lower: class,
                 role,
                 filler,
-            } => lower < classes && role < roles && filler < classes,
-            Axiom::ExistsLower {
+            }
+            | Axiom::ExistsLower {
                 role,
                 filler,
-                upper,
-            } => role < roles && filler < classes && upper < classes,
-            Axiom::Forall {
-                lower,
+                upper: class,
+            }
+            | Axiom::Forall {
+                lower: class,
                 role,
                 filler,
-            } => lower < classes && role < roles && filler < classes,
+            } => class < classes && role < roles && filler < classes,
             Axiom::RoleInclusion { sub, sup } => sub < roles && sup < roles,
         }
     }

@@ -4,7 +4,7 @@ ghost use Rattle.terms.specs.Sets.{has, only, join, without, Within, Meet, Below
 ghost use Rattle.std.specs.Iterator.{at_most};
 
 /// A set of classes, which are numbers below 64.
-#[derive(Clone, Copy, PartialEq, Eq, Debug)]
+#[derive(Clone, Copy, PartialEq, Eq, Debug, Default)]
 pub struct ClassSet {
     bits: u64,
 }
@@ -21,6 +21,7 @@ impl ClassSet {
     }
 
     /// The set with the classes whose bits are 1: class `a` has the bit worth 2 to the power `a`.
+    // A method and no `From`, as for floats: its name says which number is meant.
     pub fn from_bits(bits: u64) -> ClassSet
         ensures { result.bits ≡ bits }
     {
@@ -102,10 +103,7 @@ impl ClassSet {
     pub fn is_below(self, count: u8) -> bool
         ensures { Decides result (Below count self.bits) }
     {
-        match self.highest() {
-            Some(class) => class < count,
-            None => true,
-        }
+        self.highest().is_none_or(|class| class < count)
     }
 
     /// The highest class, if there is any.

@@ -10,4 +10,4 @@ pub mod refusals;
 
 pub use axioms::Axiom;
 pub use class_set::{ClassSet, Classes};
-pub use refusals::{Fault, Layer, Refusal};
+pub use refusals::{Fault, Layer, Refusal, UnknownNumber};

@@ -1,14 +1,14 @@
 //! Refusals: what is wrong, where, and which layer found it.
-ghost use Rattle.std.specs.Prelude.{◌≡◌, Some, Decides, ◌==◌};
-ghost use Rattle.std.specs.Ordering.{on};
-ghost use Rattle.std.specs.Cmp.Rules.{comparing};
-ghost use Rattle.std.proofs.Common.{rules};
+ghost use Rattle.std.specs.Prelude.{◌≡◌, Some};
+ghost use Rattle.terms.specs.declared.refusals.Refusal.{Refusal as RefusalOf};
+ghost use Rattle.terms.specs.declared.refusals.Refusal.TheVariants.{PastEnd};
 ghost use Rattle.terms.specs.Refusals.{number, written};
+ghost use Rattle.terms.specs.Numbers.{Numbered};
 
 use std::fmt;
 
 /// Why a call refuses. Each kind has its number, by which helpdesks know it.
-#[derive(Clone, Copy, Eq, Debug)]
+#[derive(Clone, Copy, Debug, PartialEq, Eq)]
 pub enum Refusal {
     /// The sheet has more than 60,000 bytes.
     SheetTooLong = 1,
@@ -66,24 +66,17 @@ pub struct Fault {
     pub layer: Layer,
 }
 
-/// Two kinds are the same when their numbers are.
-impl PartialEq for Refusal {
-    ghost eq = { on number ◌==◌ };
-
-    ghost laws = { Prim.search (comparing, rules) };
-
-    fn eq(&self, other: &Refusal) -> bool
-        ensures same { result ≡ (on number ◌==◌) self.now other.now }
-        ensures decides { Decides result (self.now ≡ other.now) }
-    {
-        self.number() == other.number()
-    }
-}
+/// A number that no refusal has.
+#[derive(Clone, Copy, PartialEq, Eq, Debug)]
+pub struct UnknownNumber(pub u8);
 
 impl Refusal {
     /// The number of the kind.
+    // A method and no `From`: helpdesks say the number.
+    #[tactic(auto, using(crate::proofs::Numbers::same_number))]
     pub fn number(self) -> u8
-        ensures { result ≡ number self }
+        ensures value { result ≡ number self }
+        ensures own { (kind : RefusalOf) → number kind ≡ result → kind ≡ self }
     {
         self as u8
     }
@@ -96,6 +89,44 @@ impl Refusal {
             kind: self,
             place,
             layer,
+        }
+    }
+}
+
+impl Layer {
+    /// The refusal of a number that is past the end, at place 0.
+    pub fn past_end(self) -> Fault
+        ensures { result ≡ record { kind = PastEnd; place = 0; layer = self } }
+    {
+        Refusal::PastEnd.at(0, self)
+    }
+}
+
+impl TryFrom<u8> for Refusal {
+    type Error = UnknownNumber;
+
+    ghost try_from_gives = { Numbered };
+
+    fn try_from(number: u8) -> Result<Self, UnknownNumber> {
+        match number {
+            1 => Ok(Refusal::SheetTooLong),
+            2 => Ok(Refusal::CutShort),
+            3 => Ok(Refusal::UnknownTag),
+            4 => Ok(Refusal::WrongLength),
+            5 => Ok(Refusal::NameByte),
+            6 => Ok(Refusal::NameRepeated),
+            7 => Ok(Refusal::Undeclared),
+            8 => Ok(Refusal::TooWide),
+            9 => Ok(Refusal::TooMany),
+            10 => Ok(Refusal::PastEnd),
+            11 => Ok(Refusal::TableSize),
+            12 => Ok(Refusal::WorldSize),
+            13 => Ok(Refusal::BadLink),
+            20 => Ok(Refusal::BookFull),
+            21 => Ok(Refusal::NoOwnAxiom),
+            22 => Ok(Refusal::ListFull),
+            23 => Ok(Refusal::ClosureFull),
+            _ => Err(UnknownNumber(number)),
         }
     }
 }

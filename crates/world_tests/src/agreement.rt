@@ -5,38 +5,32 @@ use std::process::Abort;
 use std::test::Fail;
 use terms::{Axiom, ClassSet, Fault};
 use worlds::world::World;
-use worlds::{EntryTable, Finding, Link, ModelTable};
+use worlds::{Breach, EntryTable, Link, ModelTable};
 
-/// Whether the element is in a class of the set, or, with `inside` false, out of one.
-fn in_some<W: World>(world: &W, element: u32, set: ClassSet, inside: bool) -> Result<bool, Fault> {
-    for class in 0..64 {
-        if set.contains(class) && world.is_in(element, class)? == inside {
+/// Whether some class of the set passes the test.
+// By a loop, as the two searches below: a test may be refused, and `any` takes no `?`.
+fn has_some<F: Fn(u8) -> Result<bool, Fault>>(set: ClassSet, test: F) -> Result<bool, Fault>
+    requires { F.IsAlwaysCallable test }
+{
+    for class in set.classes() {
+        if test(class)? {
             return Ok(true);
         }
     }
     Ok(false)
 }
 
-/// Whether the role links the element to one in the class, or, with `inside` false, to one out of it.
-fn links_some<W: World>(
+/// Whether the role links the element to one that passes the test.
+fn links_some<W: World, F: Fn(u32) -> Result<bool, Fault>>(
     world: &W,
     element: u32,
     role: u8,
-    class: u8,
-    inside: bool,
-) -> Result<bool, Fault> {
+    test: F,
+) -> Result<bool, Fault>
+    requires { F.IsAlwaysCallable test }
+{
     for other in 0..world.size() {
-        if world.links(role, element, other)? && world.is_in(other, class)? == inside {
-            return Ok(true);
-        }
-    }
-    Ok(false)
-}
-
-/// Whether one role links the element to one that the other does not.
-fn links_more<W: World>(world: &W, element: u32, sub: u8, sup: u8) -> Result<bool, Fault> {
-    for other in 0..world.size() {
-        if world.links(sub, element, other)? && !world.links(sup, element, other)? {
+        if world.links(role, element, other)? && test(other)? {
             return Ok(true);
         }
     }
@@ -47,29 +41,44 @@ fn links_more<W: World>(world: &W, element: u32, sub: u8, sup: u8) -> Result<boo
 fn is_broken<W: World>(world: &W, element: u32, axiom: Axiom) -> Result<bool, Fault> {
     match axiom {
         Axiom::Inclusion { lower, upper } => {
-            Ok(!in_some(world, element, lower, false)? && !in_some(world, element, upper, true)?)
+            let outside = has_some(lower, |class| Ok(!world.is_in(element, class)?))?;
+            let inside = has_some(upper, |class| world.is_in(element, class))?;
+            Ok(!outside && !inside)
         }
         Axiom::Exists {
             lower,
             role,
             filler,
-        } => Ok(world.is_in(element, lower)? && !links_some(world, element, role, filler, true)?),
+        } => {
+            let some = links_some(world, element, role, |other| world.is_in(other, filler))?;
+            Ok(world.is_in(element, lower)? && !some)
+        }
         Axiom::ExistsLower {
             role,
             filler,
             upper,
-        } => Ok(links_some(world, element, role, filler, true)? && !world.is_in(element, upper)?),
+        } => {
+            let some = links_some(world, element, role, |other| world.is_in(other, filler))?;
+            Ok(some && !world.is_in(element, upper)?)
+        }
         Axiom::Forall {
             lower,
             role,
             filler,
-        } => Ok(world.is_in(element, lower)? && links_some(world, element, role, filler, false)?),
-        Axiom::RoleInclusion { sub, sup } => links_more(world, element, sub, sup),
+        } => {
+            let outside = links_some(world, element, role, |other| {
+                Ok(!world.is_in(other, filler)?)
+            })?;
+            Ok(world.is_in(element, lower)? && outside)
+        }
+        Axiom::RoleInclusion { sub, sup } => links_some(world, element, sub, |other| {
+            Ok(!world.links(sup, element, other)?)
+        }),
     }
 }
 
 /// The first axiom that is broken and the lowest element that breaks it, by plain loops.
-fn plain<W: World>(axioms: &[Axiom], world: &W) -> Result<Finding, Fault> {
+fn plain<W: World>(axioms: &[Axiom], world: &W) -> Result<Option<Breach>, Fault> {
     for (number, axiom) in axioms.iter().enumerate() {
         for element in 0..world.size() {
             if is_broken(world, element, *axiom)? {
@@ -77,7 +86,7 @@ fn plain<W: World>(axioms: &[Axiom], world: &W) -> Result<Finding, Fault> {
             }
         }
     }
-    Ok(Finding::Passes)
+    Ok(None)
 }
 
 /// Every axiom over three classes and two roles.
@@ -119,37 +128,36 @@ fn links_of(heap: Global, bits: u32) -> Result<Vec<Link>, AllocError> {
     Ok(links)
 }
 
-/// Audits of the list from each axiom on find the same in both worlds, and what plain loops find.
+/// Audits of the list find the same in both worlds, and what plain loops find.
 fn agree<V: World, W: World>(
     rt: &impl Abort,
-    axioms: &[Axiom],
+    list: &[Axiom],
     one: &V,
     other: &W,
     number: u64,
 ) -> Result<(), Fail> {
-    for start in 0..axioms.len() {
-        let list = &axioms[start..axioms.len()];
-        let wanted = plain(list, one)?;
-        assert_eq!(rt;
-            plain(list, other)?,
-            wanted,
-            "plain, world {number}, from {start}"
-        );
-        assert_eq!(rt;
-            found(list, one)?,
-            wanted,
-            "one, world {number}, from {start}"
-        );
-        assert_eq!(rt;
-            found(list, other)?,
-            wanted,
-            "other, world {number}, from {start}"
-        );
-    }
+    let wanted = plain(list, one)?;
+    let len = list.len();
+    assert_eq!(rt;
+        plain(list, other)?,
+        wanted,
+        "plain, world {number}, last {len}"
+    );
+    assert_eq!(rt;
+        found(list, one)?,
+        wanted,
+        "one, world {number}, last {len}"
+    );
+    assert_eq!(rt;
+        found(list, other)?,
+        wanted,
+        "other, world {number}, last {len}"
+    );
     Ok(())
 }
 
-/// The three elements in rows of two roles and the entries with links agree; `number` tells the world in messages.
+/// The three elements in rows of two roles and the entries with links agree on the list from each axiom on; `number` tells the world in
+/// messages.
 fn kinds_agree<'x>(
     rt: &impl Abort,
     axioms: &[Axiom],
@@ -162,7 +170,11 @@ fn kinds_agree<'x>(
     model.open(words, 2, 3)?;
     let mut entries = EntryTable::new();
     entries.open(classes, links)?;
-    agree(rt, axioms, &model, &entries, number)
+    // Each list is a tail of the axioms, and a number is the plainest name of where it begins.
+    for start in 0..axioms.len() {
+        agree(rt, &axioms[start..], &model, &entries, number)?;
+    }
+    Ok(())
 }
 
 /// Worlds of three elements, with classes and links by chance.

@@ -2,19 +2,16 @@
 use crate::showing::*;
 use std::alloc::{AllocError, Global};
 use std::test::Fail;
-use worlds::{Finding, Link};
+use worlds::Link;
 
 /// Entry 9 is in class 2, entry 4,095 in class 0, and each other of 4,096 entries in class 1.
 fn classes(heap: Global) -> Result<Vec<u64>, AllocError> {
-    let mut words = Vec::new(heap);
-    for entry in 0..4096 {
-        words.push(match entry {
-            9 => 4,
-            4095 => 1,
-            _ => 2,
-        })?;
-    }
-    Ok(words)
+    let words = (0..4096).map(|entry| match entry {
+        9 => 4,
+        4095 => 1,
+        _ => 2,
+    });
+    words.collect(heap)
 }
 
 /// From each entry some links to entries in class 1, by roles 0 and 1 alike, and the odd one after so many pairs.
@@ -51,13 +48,13 @@ fn the_odd_link(rt: HostRuntime) -> Result<(), Fail> {
             );
             assert_eq!(rt;
                 found_in_entries(words.as_slice(), even.as_slice(), &[axiom])?,
-                Finding::Passes,
+                None,
                 "{axiom:?}, even after {after}"
             );
         }
         assert_eq!(rt;
             found_in_entries(words.as_slice(), odd.as_slice(), &[exists(0, 0, 2)])?,
-            Finding::Passes
+            None
         );
         assert_eq!(rt;
             found_in_entries(words.as_slice(), even.as_slice(), &[exists(0, 0, 2)])?,

@@ -3,9 +3,9 @@ use crate::showing::*;
 use std::alloc::{AllocError, Global};
 use std::process::Abort;
 use std::test::Fail;
-use terms::{Fault, Layer};
+use terms::Fault;
 use worlds::world::World;
-use worlds::{Finding, Link, ModelTable};
+use worlds::{Link, ModelTable};
 
 /// The lowest and the highest bit of a word.
 const LOW: u64 = 1;
@@ -17,30 +17,22 @@ const ELEMENTS: [u32; 12] = [0, 1, 62, 63, 64, 65, 127, 128, 191, 192, 254, 255]
 
 /// So many words, all 0 but one.
 fn spotted(heap: Global, len: usize, at: usize, bits: u64) -> Result<Vec<u64>, AllocError> {
-    let mut words = Vec::new(heap);
-    for i in 0..len {
-        words.push(if i == at { bits } else { 0 })?;
-    }
-    Ok(words)
+    let words = (0..len).map(|i| if i == at { bits } else { 0 });
+    words.collect(heap)
 }
 
 /// What opening so many words, all 0, is refused with, if it is.
-fn told(
-    heap: Global,
-    len: usize,
-    roles: u32,
-    size: u32,
-) -> Result<Option<(u8, usize, Layer)>, AllocError> {
+fn told(heap: Global, len: usize, roles: u32, size: u32) -> Result<Option<Fault>, AllocError> {
     let words = vec![in heap; 0; len]?;
     let mut world = ModelTable::new();
-    Ok(refusal(world.open(words.as_slice(), roles, size)))
+    Ok(world.open(words.as_slice(), roles, size).err())
 }
 
 /// So many words, for so many roles and elements, are refused with the number, or open where it is 0.
-fn opening(rt: &impl Abort, heap: Global, cases: &[(usize, u32, u32, u8)]) -> Result<(), Fail> {
+fn opening(rt: &(impl Abort + AllocGlobal), cases: &[(usize, u32, u32, u8)]) -> Result<(), Fail> {
     for (len, roles, size, number) in cases {
         assert_eq!(rt;
-            told(heap, *len, *roles, *size)?,
+            told(rt.alloc(), *len, *roles, *size)?,
             refused(*number),
             "{len} words, {roles} roles, {size} elements"
         );
@@ -48,41 +40,20 @@ fn opening(rt: &impl Abort, heap: Global, cases: &[(usize, u32, u32, u8)]) -> Re
     Ok(())
 }
 
-/// Of 256 elements, the word shows that link, and no other.
-fn shows_link(
-    rt: &impl Abort,
-    heap: Global,
+/// Of 256 elements, the word shows just those classes and links.
+fn shows_spot(
+    rt: &(impl Abort + AllocGlobal),
     roles: u32,
     at: usize,
     bits: u64,
-    wanted: Link,
+    classes: &[u64],
+    links: &[Link],
 ) -> Result<(), Fail> {
-    let classes = vec![in heap; 0; 256]?;
-    let words = spotted(heap, 16640, at, bits)?;
+    let words = spotted(rt.alloc(), 16640, at, bits)?;
     let mut world = ModelTable::new();
     world.open(words.as_slice(), roles, 256)?;
     assert!(rt;
-        shows(&world, &ELEMENTS, classes.as_slice(), &[wanted]),
-        "{roles} roles, word {at}"
-    );
-    Ok(())
-}
-
-/// Of 256 elements, the word shows that one element is in some classes, and no other is in any.
-fn shows_classes(
-    rt: &impl Abort,
-    heap: Global,
-    roles: u32,
-    at: usize,
-    bits: u64,
-    element: usize,
-) -> Result<(), Fail> {
-    let classes = spotted(heap, 256, element, bits)?;
-    let words = spotted(heap, 16640, at, bits)?;
-    let mut world = ModelTable::new();
-    world.open(words.as_slice(), roles, 256)?;
-    assert!(rt;
-        shows(&world, &ELEMENTS, classes.as_slice(), &[]),
+        shows(&world, &ELEMENTS, classes, links),
         "{roles} roles, word {at}"
     );
     Ok(())
@@ -91,7 +62,6 @@ fn shows_classes(
 /// The size of the table is checked before the count of elements.
 #[test]
 fn sizes(rt: HostRuntime) -> Result<(), Fail> {
-    let heap = rt.alloc();
     let worlds = [
         (0, 0, 0, 12),
         (65, 16, 0, 12),
@@ -104,7 +74,7 @@ fn sizes(rt: HostRuntime) -> Result<(), Fail> {
         (100, 17, 0, 11),
         (0, 0, u32::MAX, 11),
     ];
-    opening(&rt, heap, &worlds)?;
+    opening(&rt, &worlds)?;
     let tables = [
         (0, 0, 1, 11),
         (1, 0, 1, 0),
@@ -119,7 +89,7 @@ fn sizes(rt: HostRuntime) -> Result<(), Fail> {
         (69, 17, 1, 11),
         (1000, 17, 1, 11),
     ];
-    opening(&rt, heap, &tables)?;
+    opening(&rt, &tables)?;
     let huge = [
         (100, u32::MAX, 1, 11),
         (100, u32::MAX, 0, 11),
@@ -129,12 +99,12 @@ fn sizes(rt: HostRuntime) -> Result<(), Fail> {
         (100, 1 << 30, 1, 11),
         (100, 16, 66076420, 11),
     ];
-    opening(&rt, heap, &huge)
+    opening(&rt, &huge)
 }
 
 #[test]
 fn where_links_are(rt: HostRuntime) -> Result<(), Fail> {
-    let heap = rt.alloc();
+    let classes = vec![in rt.alloc(); 0; 256]?;
     let cases = [
         (1, 1, LOW, link(0, 0, 0)),
         (1, 1, HIGH, link(0, 0, 63)),
@@ -155,14 +125,13 @@ fn where_links_are(rt: HostRuntime) -> Result<(), Fail> {
         (16, 16639, HIGH, link(255, 15, 255)),
     ];
     for (roles, at, bits, wanted) in cases {
-        shows_link(&rt, heap, roles, at, bits, wanted)?;
+        shows_spot(&rt, roles, at, bits, classes.as_slice(), &[wanted])?;
     }
     Ok(())
 }
 
 #[test]
 fn where_classes_are(rt: HostRuntime) -> Result<(), Fail> {
-    let heap = rt.alloc();
     let cases = [
         (0, 0, LOW, 0),
         (0, 255, HIGH, 255),
@@ -173,25 +142,28 @@ fn where_classes_are(rt: HostRuntime) -> Result<(), Fail> {
         (16, 16575, 1 << 31, 255),
     ];
     for (roles, at, bits, element) in cases {
-        shows_classes(&rt, heap, roles, at, bits, element)?;
+        let classes = spotted(rt.alloc(), 256, element, bits)?;
+        shows_spot(&rt, roles, at, bits, classes.as_slice(), &[])?;
     }
     Ok(())
 }
+
+/// Elements to look for links from, and to.
+const SOME_FROM: [u32; 9] = [0, 1, 2, 3, 63, 64, 255, 256, u32::MAX];
+
+const SOME_TO: [u32; 11] = [0, 1, 2, 3, 63, 64, 127, 128, 255, 256, u32::MAX];
 
 /// Whether three elements of rows that are all ones are linked with each other by the roles below the count, and nothing else is.
 fn links_below(words: &[u64], roles: u32, count: u8) -> Result<bool, Fault> {
     let mut world = ModelTable::new();
     world.open(words, roles, 3)?;
-    for role in 0..=255 {
-        for from in [0, 1, 2, 3, 63, 64, 255, 256, u32::MAX] {
-            for to in [0, 1, 2, 3, 63, 64, 127, 128, 255, 256, u32::MAX] {
-                if world.is_linked(role, from, to) != (role < count && from < 3 && to < 3) {
-                    return Ok(false);
-                }
-            }
-        }
-    }
-    Ok(true)
+    Ok((0..=255).all(|role| {
+        SOME_FROM.iter().all(|from| {
+            SOME_TO.iter().all(|to| {
+                world.is_linked(role, *from, *to) == (role < count && *from < 3 && *to < 3)
+            })
+        })
+    }))
 }
 
 /// Roles past the row's link nothing, nor do bits of elements past the last, nor rows past the last.
@@ -202,8 +174,8 @@ fn past_the_rows(rt: HostRuntime) -> Result<(), Fail> {
         assert!(rt; links_below(&full, roles, count)?, "{roles} roles");
     }
     let cases = [
-        (forall(0, 6, 0), Finding::Passes),
-        (roles(7, 8), Finding::Passes),
+        (forall(0, 6, 0), None),
+        (roles(7, 8), None),
         (roles(6, 7), broken(0, 0)),
         (exists(0, 7, 0), broken(0, 0)),
     ];
@@ -212,8 +184,8 @@ fn past_the_rows(rt: HostRuntime) -> Result<(), Fail> {
     }
     let words = [1, 0b110, 0, 0, 0, 1, 0, 1, 0, 0, 2, 1, 0, 0, 0];
     let cases = [
-        (2, forall(0, 0, 0), Finding::Passes),
-        (2, exists_lower(0, 1, 2), Finding::Passes),
+        (2, forall(0, 0, 0), None),
+        (2, exists_lower(0, 1, 2), None),
         (2, exists(0, 0, 1), broken(0, 0)),
         (3, forall(0, 0, 0), broken(0, 0)),
         (3, exists_lower(0, 1, 2), broken(0, 0)),

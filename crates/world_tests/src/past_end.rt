@@ -2,11 +2,13 @@
 use crate::showing::*;
 use std::process::Abort;
 use std::test::Fail;
+use terms::{Layer, Refusal};
 use worlds::world::World;
 use worlds::{EntryTable, Link, ModelTable};
 
 /// Membership at the ends of a world of 65 elements, each in every class.
 fn classes_end<W: World>(rt: &impl Abort, world: &W) {
+    let past = Err(Refusal::PastEnd.at(0, Layer::World));
     assert_eq!(rt; world.is_in(0, 0), Ok(true));
     assert_eq!(rt; world.is_in(64, 63), Ok(true));
     for (element, class) in [
@@ -17,7 +19,7 @@ fn classes_end<W: World>(rt: &impl Abort, world: &W) {
         (65, 64),
         (u32::MAX, 0),
     ] {
-        assert_eq!(rt; refusal(world.is_in(element, class)), refused(10));
+        assert_eq!(rt; world.is_in(element, class), past);
     }
     assert_eq!(rt; world.classes_of(64).bits(), u64::MAX);
     assert!(rt; world.classes_of(65).is_empty());
@@ -26,10 +28,11 @@ fn classes_end<W: World>(rt: &impl Abort, world: &W) {
 
 /// Links at the ends of a world of 65 elements, where role 15 links the last to itself.
 fn links_end<W: World>(rt: &impl Abort, world: &W) {
+    let past = Err(Refusal::PastEnd.at(0, Layer::World));
     assert_eq!(rt; world.links(15, 64, 64), Ok(true));
     assert_eq!(rt; world.links(15, 64, 0), Ok(false));
     assert_eq!(rt; world.links(0, 64, 64), Ok(false));
-    let past = [
+    let cases = [
         (16, 64, 64),
         (16, 0, 0),
         (255, 0, 0),
@@ -39,8 +42,8 @@ fn links_end<W: World>(rt: &impl Abort, world: &W) {
         (0, 0, u32::MAX),
         (16, 65, 65),
     ];
-    for (role, from, to) in past {
-        assert_eq!(rt; refusal(world.links(role, from, to)), refused(10));
+    for (role, from, to) in cases {
+        assert_eq!(rt; world.links(role, from, to), past);
         assert!(rt; !world.is_linked(role, from, to));
     }
 }

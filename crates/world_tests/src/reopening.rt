@@ -2,8 +2,9 @@
 use crate::showing::*;
 use std::process::Abort;
 use std::test::Fail;
+use terms::{Layer, Refusal};
 use worlds::world::World;
-use worlds::{EntryTable, Finding, Link, ModelTable};
+use worlds::{EntryTable, Link, ModelTable};
 
 /// The world has one element, in no class and with no link.
 fn is_blank<W: World>(rt: &impl Abort, world: &W) -> Result<(), Fail> {
@@ -15,7 +16,7 @@ fn is_blank<W: World>(rt: &impl Abort, world: &W) -> Result<(), Fail> {
         forall(0, 0, 0),
         roles(0, 1),
     ];
-    assert_eq!(rt; found(&kept, world)?, Finding::Passes);
+    assert_eq!(rt; found(&kept, world)?, None);
     assert_eq!(rt; found(&[kept[0], inclusion(0, 1)], world)?, broken(1, 0));
     Ok(())
 }
@@ -28,7 +29,7 @@ fn is_pair<W: World>(rt: &impl Abort, world: &W) -> Result<(), Fail> {
         found(&[exists(0, 0, 1), roles(0, 1)], world)?,
         broken(1, 0)
     );
-    assert_eq!(rt; found(&[exists_lower(0, 0, 1)], world)?, Finding::Passes);
+    assert_eq!(rt; found(&[exists_lower(0, 0, 1)], world)?, None);
     assert_eq!(rt; found(&[forall(1, 0, 1)], world)?, broken(0, 1));
     Ok(())
 }
@@ -46,22 +47,25 @@ fn model_tables(rt: HostRuntime) -> Result<(), Fail> {
     let pair = [1, 0b10, 0, 0, 0, 2, 0b01, 0, 0, 0];
     let other = [u64::MAX; 300];
     let mut world = ModelTable::new();
-    assert_eq!(rt; refusal(world.open(&other, 0, 257)), refused(12));
+    assert_eq!(rt;
+        world.open(&other, 0, 257),
+        Err(Refusal::WorldSize.at(0, Layer::World))
+    );
     is_blank(&rt, &world)?;
     world.open(&pair, 1, 2)?;
     is_pair(&rt, &world)?;
     let refusals = [
-        (0, 0, 12),
-        (0, 257, 12),
-        (0, 301, 11),
-        (16, 5, 11),
-        (17, 1, 11),
-        (u32::MAX, u32::MAX, 11),
+        (0, 0, Refusal::WorldSize),
+        (0, 257, Refusal::WorldSize),
+        (0, 301, Refusal::TableSize),
+        (16, 5, Refusal::TableSize),
+        (17, 1, Refusal::TableSize),
+        (u32::MAX, u32::MAX, Refusal::TableSize),
     ];
-    for (roles, size, number) in refusals {
+    for (roles, size, kind) in refusals {
         assert_eq!(rt;
-            refusal(world.open(&other, roles, size)),
-            refused(number),
+            world.open(&other, roles, size),
+            Err(kind.at(0, Layer::World)),
             "{roles} roles, {size} elements"
         );
         is_pair(&rt, &world)?;
@@ -78,14 +82,14 @@ fn stays<'x>(
     classes: &'x [u64],
     links: &'x [Link],
     pair: &'x [Link],
-    number: u8,
+    kind: Refusal,
 ) -> Result<(), Fail> {
     let mut world = EntryTable::new();
-    assert_eq!(rt; refusal(world.open(classes, links)), refused(number));
+    assert_eq!(rt; world.open(classes, links), Err(kind.at(0, Layer::World)));
     is_blank(rt, &world)?;
     world.open(&[1, 2], pair)?;
     is_pair(rt, &world)?;
-    assert_eq!(rt; refusal(world.open(classes, links)), refused(number));
+    assert_eq!(rt; world.open(classes, links), Err(kind.at(0, Layer::World)));
     is_pair(rt, &world)
 }
 
@@ -110,11 +114,23 @@ fn entry_tables(rt: HostRuntime) -> Result<(), Fail> {
     let pair = [link(0, 0, 1), link(1, 0, 0)];
     let many = vec![in rt.alloc(); 4; 4097]?;
     let long = vec![in rt.alloc(); link(2, 1, 0); 16385]?;
-    stays(&rt, &[], &[], &pair, 12)?;
-    stays(&rt, many.as_slice(), &[link(2, 1, 0)], &pair, 12)?;
-    stays(&rt, &[4, 4, 4], long.as_slice(), &pair, 12)?;
+    stays(&rt, &[], &[], &pair, Refusal::WorldSize)?;
+    stays(
+        &rt,
+        many.as_slice(),
+        &[link(2, 1, 0)],
+        &pair,
+        Refusal::WorldSize,
+    )?;
+    stays(&rt, &[4, 4, 4], long.as_slice(), &pair, Refusal::WorldSize)?;
     for last in [link(3, 1, 2), link(2, 1, 3), link(2, 16, 2)] {
-        stays(&rt, &[4, 4, 4], &[link(2, 1, 2), last], &pair, 13)?;
+        stays(
+            &rt,
+            &[4, 4, 4],
+            &[link(2, 1, 2), last],
+            &pair,
+            Refusal::BadLink,
+        )?;
     }
     shows_in_turn(&rt, &[4, 4, 4], &[link(2, 1, 0)], &pair)
 }

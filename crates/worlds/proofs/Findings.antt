@@ -1,12 +1,10 @@
 -- An audit has one finding.
-use Rattle.std.proofs.Common.{◌≡◌, ℕ, zero, suc, ◌<◌, ◌⊎◌, List, [], ◌∷◌, length, get_or, sym, refl, subst, inl, inr, arith}
+use Rattle.std.proofs.Common.{◌≡◌, ℕ, zero, suc, ◌<◌, List, [], ◌∷◌, Option, Some, None, length, get_or, sym, refl, subst, inl, inr, arith}
 use mathlib.Core.List.Memᴰ
 use mathlib.Core.List.{Memᴰ}
-use Rattle.std.proofs.lemmas.Bool.{cases_order}
 use Rattle.terms.specs.Axioms.{blank}
 use Rattle.terms.specs.declared.axioms.Axiom.{Axiom}
-use Rattle.worlds.specs.declared.audit.Finding.{Finding}
-use Rattle.worlds.specs.declared.audit.Finding.TheVariants.{Passes, Broken}
+use Rattle.worlds.specs.declared.audit.Breach.{Breach}
 use Rattle.worlds.specs.Worlds.{World, Holds, Obeys}
 use Rattle.worlds.specs.Audits.{LowestBreaking, FirstBroken, Audited}
 
@@ -23,25 +21,21 @@ obeys_each w (y ∷ ys) h x m = elim (Memᴰ.cases_cons m) [
   | inr r ↦ obeys_each w ys (λ j l. h (suc j) (omega arith)) x r
 ]
 
-lowest_one : (w : World) (x : Axiom) (d e : ℕ) → LowestBreaking w x d → LowestBreaking w x e → (d ≡ e) ⊎ ((d < e) ⊎ (e < d)) → d ≡ e
-lowest_one w x d e p q (inl s) = s
-lowest_one w x d e p q (inr (inl l)) = absurd (p.breaks (q.lowest d l))
-lowest_one w x d e p q (inr (inr l)) = absurd (q.breaks (p.lowest e l))
+lowest_one : (w : World) (x : Axiom) (d e : ℕ) → LowestBreaking w x d → LowestBreaking w x e → d ≡ e
+lowest_one w x d e p q = omega (arith, λ (l : d < e). p.breaks (q.lowest d l), λ (l : e < d). q.breaks (p.lowest e l))
 
 module _ (xs : List Axiom) (w : World) where
   broken_fails : (i e : ℕ) → FirstBroken xs w i e → Holds w (get_or xs i blank) → ⊥
   broken_fails i e b h = b.broken.breaks (h e b.broken.element)
 
-  numbers_one : (i j d e : ℕ) → FirstBroken xs w i d → FirstBroken xs w j e → (i ≡ j) ⊎ ((i < j) ⊎ (j < i)) → i ≡ j
-  numbers_one i j d e p q (inl s) = s
-  numbers_one i j d e p q (inr (inl l)) = absurd (broken_fails i d p (q.before i l))
-  numbers_one i j d e p q (inr (inr l)) = absurd (broken_fails j e q (p.before j l))
+  numbers_one : (i j d e : ℕ) → FirstBroken xs w i d → FirstBroken xs w j e → i ≡ j
+  numbers_one i j d e p q = omega (arith, λ (l : i < j). broken_fails i d p (q.before i l), λ (l : j < i). broken_fails j e q (p.before j l))
 
-  pub one_finding : (a b : Finding) → Audited xs w a → Audited xs w b → a ≡ b
-  one_finding Passes Passes p q = refl
-  one_finding Passes (Broken i e) p q = absurd (broken_fails i e q (p (get_or xs i blank) (at_member xs i q.there)))
-  one_finding (Broken i e) Passes p q = absurd (broken_fails i e p (q (get_or xs i blank) (at_member xs i p.there)))
-  one_finding (Broken i d) (Broken j e) p q =
-      let s = numbers_one i j d e p q (cases_order i j) in
-      let r = lowest_one w (get_or xs i blank) d e p.broken (subst (λ k. LowestBreaking w (get_or xs k blank) e) (sym s) q.broken) (cases_order d e) in
-      λ k. Broken (s k) (r k)
+  pub one_finding : (a b : Option Breach) → Audited xs w a → Audited xs w b → a ≡ b
+  one_finding None None p q = refl
+  one_finding None (Some b) p q = absurd (broken_fails b.number b.element q (p (get_or xs b.number blank) (at_member xs b.number q.there)))
+  one_finding (Some a) None p q = absurd (broken_fails a.number a.element p (q (get_or xs a.number blank) (at_member xs a.number p.there)))
+  one_finding (Some a) (Some b) p q =
+      let s = numbers_one a.number b.number a.element b.element p q in
+      let r = lowest_one w (get_or xs a.number blank) a.element b.element p.broken (subst (λ k. LowestBreaking w (get_or xs k blank) b.element) (sym s) q.broken) in
+      λ k. Some (record { number = s k; element = r k })

@@ -1,6 +1,5 @@
 -- Links as members of their list.
-use Rattle.std.proofs.Common.{◌≡◌, ℕ, zero, suc, ◌<◌, Bool, true, false, ◌&&◌, eqb, List, [], ◌∷◌, length, get_or, sym, refl, ◌∙◌, inl, inr, arith}
-use mathlib.Core.Bool.{beq}
+use Rattle.std.proofs.Common.{◌≡◌, ℕ, zero, suc, ◌<◌, true, false, ◌&&◌, eqb, List, [], ◌∷◌, length, get_or, refl, inl, inr, arith}
 use Rattle.std.proofs.lemmas.Bool.{eqb-true, eq-eqb, and_parts, and_from, or_cases, or_left, or_right, both_ways}
 use Rattle.worlds.specs.declared.link.Link.{Link}
 use Rattle.worlds.specs.Entries.{is_link, any_link, no_link}
@@ -27,25 +26,3 @@ pub join_any : (xs : List Link) (k d f j : ℕ) → Joins xs k d f j → any_lin
 join_any [] k d f j r = absurd (omega (arith, r.there))
 join_any (x ∷ xs) k d f zero r = or_left _ _ (and_from _ _ (eq-eqb _ _ r.from_is) (and_from _ _ (eq-eqb _ _ r.role_is) (eq-eqb _ _ r.to_is)))
 join_any (x ∷ xs) k d f (suc j) r = or_right (is_link k d f x) _ (join_any xs k d f j (record { there = omega (arith, r.there); from_is = r.from_is; role_is = r.role_is; to_is = r.to_is }))
-
--- two tests that hold in the same cases are one
-pub same_test : (a b : Bool) → (a ≡ true → b ≡ true) → (b ≡ true → a ≡ true) → a ≡ b
-same_test true b f g = sym (f refl)
-same_test false true f g = g refl
-same_test false false f g = refl
-
-pub same_bools : (a b : Bool) → beq a b ≡ true → a ≡ b
-same_bools true true e = refl
-same_bools true false e = sym e
-same_bools false true e = e
-same_bools false false e = refl
-
-pub other_bools : (a b : Bool) → beq a b ≡ false → a ≡ b → ⊥
-other_bools true true e q = both_ways true e refl
-other_bools true false e q = both_ways true (q ∙ refl) refl
-other_bools false true e q = both_ways false refl q
-other_bools false false e q = both_ways true e refl
-
-pub never : (a : Bool) → (a ≡ true → ⊥) → a ≡ false
-never true h = absurd (h refl)
-never false h = refl

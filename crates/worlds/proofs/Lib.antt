@@ -1,7 +1,7 @@
-pub mod Rows
+pub mod Ranges
 pub mod Zeros
 pub mod Marking
-pub mod Walks
+pub mod Chaining
 pub mod Joins
-pub mod Collecting
+pub mod Successors
 pub mod Findings

@@ -1,13 +1,12 @@
 -- What an audit of a world against axioms answers.
-use Rattle.std.specs.Prelude.{ℕ, ◌<◌, List, length, slice_index_or}
+use Rattle.std.specs.Prelude.{ℕ, ◌<◌, List, Option, Some, None, length, slice_index_or}
 use Rattle.terms.specs.Axioms.{blank}
 use Rattle.terms.specs.declared.axioms.Axiom.{Axiom}
 use Rattle.terms.specs.declared.refusals.Layer.{Layer}
 use Rattle.terms.specs.declared.refusals.Layer.TheVariants.{World}
 use Rattle.worlds.specs.Worlds as Of
 use Rattle.worlds.specs.Worlds.{Keeps, Breaks, Holds, Obeys}
-use Rattle.worlds.specs.declared.audit.Finding.{Finding}
-use Rattle.worlds.specs.declared.audit.Finding.TheVariants.{Passes, Broken}
+use Rattle.worlds.specs.declared.audit.Breach.{Breach}
 
 abbrev pub in_world : Layer
 in_world = World
@@ -24,6 +23,7 @@ pub record FirstBroken (axs : List Axiom) (w : Of.World) (i e : ℕ) : Type 0 wh
   pub before : (j : ℕ) → j < i → Holds w (slice_index_or axs j blank)
   pub broken : LowestBreaking w (slice_index_or axs i blank) e
 
-abbrev pub Audited : List Axiom → Of.World → Finding → Type 0
-Audited axs w Passes = Obeys w axs
-Audited axs w (Broken i e) = FirstBroken axs w i e
+-- there is no breach where the world obeys the axioms, and the first otherwise
+abbrev pub Audited : List Axiom → Of.World → Option Breach → Type 0
+Audited axs w None = Obeys w axs
+Audited axs w (Some b) = FirstBroken axs w b.number b.element

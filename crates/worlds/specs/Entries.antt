@@ -1,5 +1,5 @@
 -- The world that a table of entries shows: one word of classes an entry, and a list of links.
-use Rattle.std.specs.Prelude.{◌≡◌, ℕ, zero, suc, ◌/◌, ◌%◌, ◌<◌, ◌≤◌, Bool, false, cond, ◌&&◌, ◌||◌, List, [], ◌∷◌, length, ◌==◌, slice_index, slice_index_or}
+use Rattle.std.specs.Prelude.{◌≡◌, ℕ, zero, suc, ◌/◌, ◌%◌, ◌<◌, ◌≤◌, Bool, true, false, cond, ◌&&◌, ◌||◌, List, [], ◌∷◌, Option, Some, None, length, ◌==◌, slice_index, slice_index_or}
 use Rattle.std.specs.List.{AllByRecursion}
 use Rattle.terms.specs.Sets.{has}
 use Rattle.terms.specs.Refusals.{Checks, end, check}
@@ -29,19 +29,33 @@ entry_checks words xs = check 12 ((1 ≤ length words) × (length words ≤ 4096
 abbrev pub no_link : Link
 no_link = record { from = 0; role = 0; to = 0 }
 
--- one more than the number of the last link from d among the first k; 0 where there is none
-abbrev pub latest : List Link → ℕ → ℕ → ℕ
-latest xs d zero = 0
-latest xs d (suc k) = cond ((slice_index_or xs k no_link).from == d) (suc k) (latest xs d k)
+-- the number of the last link from d among the first k, if there is one
+abbrev pub latest : List Link → ℕ → ℕ → Option ℕ
+latest xs d zero = None
+latest xs d (suc k) = cond ((slice_index_or xs k no_link).from == d) (Some k) (latest xs d k)
 
 -- the numbers of the last link from each of 4,096 elements, among the first k
-abbrev pub Last : List Link → List ℕ → ℕ → Type 0
-Last xs last k = (d : ℕ) → d < 4096 → slice_index last d ≡ latest xs d k
+abbrev pub Last : List Link → List (Option ℕ) → ℕ → Type 0
+Last xs last k = (d : ℕ) → d < 4096 → slice_index_or last d None ≡ latest xs d k
 
 -- the number before each of the first k links in the chain of the element that it is from
-abbrev pub Chained : List Link → List ℕ → ℕ → Type 0
-Chained xs previous k = (i : ℕ) → i < k → slice_index previous i ≡ latest xs (slice_index_or xs i no_link).from i
+abbrev pub Chained : List Link → List (Option ℕ) → ℕ → Type 0
+Chained xs previous k = (i : ℕ) → i < k → slice_index_or previous i None ≡ latest xs (slice_index_or xs i no_link).from i
+
+-- the links from d among the first k, from the last to the first
+abbrev pub links_from : List Link → ℕ → ℕ → List Link
+links_from xs d zero = []
+links_from xs d (suc k) = cond ((slice_index_or xs k no_link).from == d) (slice_index_or xs k no_link ∷ links_from xs d k) (links_from xs d k)
+
+-- the link of that number, and then those before it from the same element
+abbrev pub chain : List Link → Option ℕ → List Link
+chain xs None = []
+chain xs (Some k) = slice_index_or xs k no_link ∷ links_from xs (slice_index_or xs k no_link).from k
 
 -- number j is marked in these words
 abbrev pub marked : List ℕ → ℕ → Bool
 marked words j = has (slice_index words (j / 64)) (j % 64)
+
+-- each of the 64 bits that is 1 in a word is 1 in another
+abbrev pub BitsWithin : ℕ → ℕ → Type 0
+BitsWithin word there = (b : ℕ) → b < 64 → has word b ≡ true → has there b ≡ true

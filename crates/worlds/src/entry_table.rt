@@ -2,14 +2,14 @@
 ghost use Rattle.std.specs.Prelude.{◌≡◌, ℕ, ◌<◌, ◌≤◌, [], ◌∷◌, length, Decides, OnErr, slice_index_or};
 ghost use Rattle.std.specs.List.{AllByRecursion};
 ghost use Rattle.terms.specs.Refusals.{Answers, told};
-ghost use Rattle.worlds.specs.Worlds.{Successor};
-ghost use Rattle.worlds.specs.Entries.{entry_world, entry_checks, Fits, Last, Chained, any_link, latest, marked, no_link};
+ghost use Rattle.worlds.specs.Entries.{entry_world, entry_checks, Fits, any_link, marked, no_link};
 ghost use Rattle.worlds.specs.Audits.{in_world};
 
 use crate::chains::Chains;
 use crate::link::Link;
 use crate::marks::Marks;
 use crate::world::World;
+use sources::source::MOST_ROLES;
 use terms::{ClassSet, Fault, Layer, Refusal};
 
 /// A world of at most 4,096 entries, one word of classes each, with at most 16,384 links between them. It only reads what it is
@@ -17,31 +17,23 @@ use terms::{ClassSet, Fault, Layer, Refusal};
 #[derive(Clone, Copy)]
 pub struct EntryTable<'a> {
     classes: &'a [u64],
-    links: &'a [Link],
-    chains: Chains,
-    ghost sized: { (1 ≤ length classes.now) × (length classes.now ≤ 4096) × (length links.now ≤ 16384) },
-    ghost fit: { (i : ℕ) → i < length links.now → Fits (length classes.now) (slice_index_or links.now i no_link) },
-    ghost lasts: { Last links.now chains.last.items (length links.now) },
-    ghost chained: { Chained links.now chains.previous.items (length links.now) },
+    chains: Chains<'a>,
+    ghost sized: { (1 ≤ length classes.now) × (length classes.now ≤ 4096) },
+    ghost fit: { (i : ℕ) → i < length chains.links.now → Fits (length classes.now) (slice_index_or chains.links.now i no_link) },
 }
 
 /// Whether the ends of a link are among so many entries, and its role is below 16.
 fn is_fit(link: Link, entries: usize) -> bool
     ensures { Decides result (Fits entries link) }
 {
-    (link.from as usize) < entries && link.role < 16 && (link.to as usize) < entries
+    (link.from as usize) < entries && link.role < MOST_ROLES && (link.to as usize) < entries
 }
 
 /// Whether the ends of each link are among so many entries, and its role is below 16.
 fn all_fit(links: &[Link], entries: usize) -> bool
     ensures { Decides result (AllByRecursion (Fits entries) links.now) }
 {
-    for link in links {
-        if !is_fit(*link, entries) {
-            return false;
-        }
-    }
-    true
+    links.iter().all(|link| is_fit(*link, entries))
 }
 
 impl<'a> EntryTable<'a> {
@@ -53,11 +45,10 @@ impl<'a> EntryTable<'a> {
 
     /// The world of one entry, in no class and with no link.
     pub fn new() -> Self
-        ensures { entry_world result.classes.now result.links.now ≡ entry_world (0 ∷ []) [] }
+        ensures { entry_world result.classes.now result.chains.links.now ≡ entry_world (0 ∷ []) [] }
     {
         EntryTable {
             classes: &[0],
-            links: &[],
             chains: Chains::new(&[]),
         }
     }
@@ -65,7 +56,7 @@ impl<'a> EntryTable<'a> {
     /// Reads the entries and links from now on, or refuses them and stays as it was.
     pub fn open(&mut self, classes: &'a [u64], links: &'a [Link]) -> Result<(), Fault>
         ensures gives { Answers (entry_checks classes.now links.now) 0 in_world
-            (λ _. entry_world self.new.classes.now self.new.links.now ≡ entry_world classes.now links.now) (told result) }
+            (λ _. entry_world self.new.classes.now self.new.chains.links.now ≡ entry_world classes.now links.now) (told result) }
         ensures kept { OnErr result (self.new ≡ self.old) }
     {
         if classes.is_empty()
@@ -79,91 +70,50 @@ impl<'a> EntryTable<'a> {
         }
         *self = EntryTable {
             classes,
-            links,
             chains: Chains::new(links),
         };
         Ok(())
     }
 
-    /// One more than the number of the last link from an element, or 0.
-    fn last_link(&self, element: u32) -> usize
-        ensures { result ≡ latest self.now.links.now element (length self.now.links.now) }
-    {
-        if element as usize >= self.classes.len() {
-            return 0;
-        }
-        usize::from(self.chains.last.items[element as usize])
-    }
-
-    /// One more than the number of the link before link `i` from the same element, or 0.
-    fn link_before(&self, i: usize) -> usize
-        requires { i < length self.now.links.now }
-        ensures { result ≡ latest self.now.links.now (slice_index_or self.now.links.now i no_link).from i }
-    {
-        usize::from(self.chains.previous.items[i])
-    }
-
     /// The successors of an element by a role.
     fn successors(&self, element: u32, role: u8) -> Marks<64>
-        ensures { (f : ℕ) → marked result.words f ≡ any_link self.now.links.now role element f }
+        ensures { (f : ℕ) → marked result.words f ≡ any_link self.now.chains.links.now role element f }
     {
         let mut marks = Marks::new();
-        let mut at = self.last_link(element);
-        while at > 0 {
-            let link = self.links[at - 1];
+        for link in self.chains.links_of(element) {
             if link.role == role {
                 marks.set(link.to as usize);
             }
-            at = self.link_before(at - 1);
         }
         marks
-    }
-
-    /// Whether some successor of the element by the role is in the class, or, with `inside` false, out of it.
-    fn has_successor(&self, element: u32, role: u8, class: u8, inside: bool) -> bool
-        ensures { Decides result ((f : ℕ)
-            × Successor (entry_world self.now.classes.now self.now.links.now) role element f
-            × ((entry_world self.now.classes.now self.now.links.now).is_in f class ≡ inside)) }
-    {
-        let mut at = self.last_link(element);
-        while at > 0 {
-            let link = self.links[at - 1];
-            if link.role == role && self.classes_of(link.to).contains(class) == inside {
-                return true;
-            }
-            at = self.link_before(at - 1);
-        }
-        false
     }
 }
 
 impl<'a> World for EntryTable<'a> {
-    ghost meaning = { λ t. entry_world t.classes.now t.links.now };
+    ghost meaning = { λ t. entry_world t.classes.now t.chains.links.now };
 
     fn size(&self) -> u32 {
         self.classes.len() as u32
     }
 
     fn classes_of(&self, element: u32) -> ClassSet {
-        if element as usize >= self.classes.len() {
-            return ClassSet::empty();
-        }
-        ClassSet::from_bits(self.classes[element as usize])
+        let bits = self.classes.get(element as usize);
+        ClassSet::from_bits(bits.copied().unwrap_or(0))
     }
 
     fn is_linked(&self, role: u8, from: u32, to: u32) -> bool {
-        if to as usize >= self.classes.len() {
-            return false;
-        }
-        self.successors(from, role).has(to as usize)
+        let mut links = self.chains.links_of(from);
+        links.any(|link| link.role == role && link.to == to)
     }
 
     fn some_successor(&self, element: u32, role: u8, class: u8) -> bool {
-        self.has_successor(element, role, class, true)
+        let mut links = self.chains.links_of(element);
+        links.any(|link| link.role == role && self.classes_of(link.to).contains(class))
     }
 
     fn every_successor(&self, element: u32, role: u8, class: u8) -> bool {
-        !self.has_successor(element, role, class, false)
+        let mut links = self.chains.links_of(element);
+        links.all(|link| link.role != role || self.classes_of(link.to).contains(class))
     }
 
     fn successors_within(&self, element: u32, sub: u8, sup: u8) -> bool {

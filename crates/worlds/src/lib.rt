@@ -8,11 +8,12 @@ pub mod audit;
 mod chains;
 pub mod entry_table;
 pub mod link;
-mod marks;
+pub mod marks;
 pub mod model_table;
 pub mod world;
 
-pub use audit::Finding;
+pub use audit::Breach;
 pub use entry_table::EntryTable;
 pub use link::Link;
+pub use marks::Marks;
 pub use model_table::ModelTable;

@@ -1,13 +1,23 @@
 //! Marks on numbers, a bit each.
-ghost use Rattle.std.specs.Prelude.{◌≡◌, ℕ, ◌*◌, ◌<◌, true, false, ◌||◌, length, Decides, ◌==◌};
-ghost use Rattle.worlds.specs.Entries.{marked};
+ghost use Rattle.std.specs.Prelude.{◌≡◌, ℕ, ◌*◌, ◌<◌, true, false, ◌||◌, length, Decides, ◌==◌, slice_index};
+ghost use Rattle.worlds.specs.Entries.{marked, BitsWithin};
 
 use terms::ClassSet;
+
+/// A word has this many bits.
+pub(crate) const WORD_BITS: usize = 64;
+
+/// Whether each bit that is 1 in a word is 1 in another.
+fn is_within(word: u64, there: u64) -> bool
+    ensures { Decides result (BitsWithin word there) }
+{
+    ClassSet::from_bits(word).is_subset(ClassSet::from_bits(there))
+}
 
 /// Which of the numbers below 64 × `N` are marked.
 #[derive(Clone, Copy)]
 pub struct Marks<const N: usize> {
-    pub words: [u64; N],
+    words: [u64; N],
     ghost ok: { length words ≡ N },
 }
 
@@ -24,9 +34,8 @@ impl<const N: usize> Marks<N> {
         requires { number < 64 * N }
         ensures { (j : ℕ) → marked self.new.words j ≡ (j == number || marked self.old.words j) }
     {
-        let at = number / 64;
-        let word = ClassSet::from_bits(self.words[at]);
-        self.words[at] = word.with((number % 64) as u8).bits();
+        let word = ClassSet::from_bits(self.word(number / WORD_BITS));
+        self.words[number / WORD_BITS] = word.with((number % WORD_BITS) as u8).bits();
     }
 
     /// Whether a number is marked.
@@ -34,20 +43,22 @@ impl<const N: usize> Marks<N> {
         requires { number < 64 * N }
         ensures { result ≡ marked self.now.words number }
     {
-        ClassSet::from_bits(self.words[number / 64]).contains((number % 64) as u8)
+        ClassSet::from_bits(self.word(number / WORD_BITS)).contains((number % WORD_BITS) as u8)
+    }
+
+    /// The marks of 64 numbers, the lowest in bit 0: word `at` is of those from 64 × `at` on.
+    pub fn word(&self, at: usize) -> u64
+        requires { at < N }
+        ensures { result ≡ slice_index self.now.words at }
+    {
+        self.words[at]
     }
 
     /// Whether each number that is marked is marked there too.
     pub fn is_subset(&self, other: &Marks<N>) -> bool
         ensures { Decides result ((j : ℕ) → marked self.now.words j ≡ true → marked other.now.words j ≡ true) }
     {
-        for at in 0..N {
-            if !ClassSet::from_bits(self.words[at]).is_subset(ClassSet::from_bits(
-                other.words[at],
-            )) {
-                return false;
-            }
-        }
-        true
+        let mut pairs = self.words.iter().zip(&other.words);
+        pairs.all(|(word, there)| is_within(*word, *there))
     }
 }

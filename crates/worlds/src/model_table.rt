@@ -1,11 +1,16 @@
 //! A world in the rows of a model table.
-ghost use Rattle.std.specs.Prelude.{◌≡◌, ◌+◌, ◌*◌, ◌≤◌, [], ◌∷◌, length, OnErr};
+ghost use Rattle.std.specs.Prelude.{◌≡◌, ◌+◌, ◌*◌, ◌<◌, ◌≤◌, [], ◌∷◌, length, OnErr};
 ghost use Rattle.terms.specs.Refusals.{Answers, told};
-ghost use Rattle.worlds.specs.Models.{model_world, model_checks};
+ghost use Rattle.worlds.specs.Models.{model_world, model_checks, row_width};
 ghost use Rattle.worlds.specs.Audits.{in_world};
 
+use crate::marks::WORD_BITS;
 use crate::world::World;
+use sources::source::MOST_ROLES;
 use terms::{ClassSet, Fault, Layer, Refusal};
+
+/// A row has this many words for each role: a bit for each of 256 elements.
+const ROLE_WORDS: usize = 4;
 
 /// A world of at most 256 elements in words that the caller lends, a row an element.
 ///
@@ -13,15 +18,23 @@ use terms::{ClassSet, Fault, Layer, Refusal};
 /// bit f mod 64 of word 1 + 4 × k + (f div 64). Roles past the row's link nothing.
 #[derive(Clone, Copy)]
 pub struct ModelTable<'a> {
+    // More words may be lent than the rows take, so the meaning of a world is said of words, roles and size together.
     words: &'a [u64],
-    roles: usize,
+    roles: u8,
     size: u32,
-    ghost ok: { (1 ≤ size) × (size ≤ 256) × (roles ≤ 16) × (size * (1 + 4 * roles) ≤ length words.now) },
+    ghost ok: { (1 ≤ size) × (size ≤ 256) × (roles ≤ 16) × (size * row_width roles ≤ length words.now) },
 }
 
 impl<'a> ModelTable<'a> {
     /// A model table has at most this many elements.
     pub const MOST: u32 = 256;
+
+    /// How many words a row has where there are so many roles.
+    pub fn row_words(roles: u8) -> usize
+        ensures { result ≡ row_width roles }
+    {
+        1 + ROLE_WORDS * usize::from(roles)
+    }
 
     /// The world of one element, in no class.
     pub fn new() -> Self
@@ -40,7 +53,9 @@ impl<'a> ModelTable<'a> {
             (λ _. model_world self.new.words.now self.new.roles self.new.size ≡ model_world words.now roles size) (told result) }
         ensures kept { OnErr result (self.new ≡ self.old) }
     {
-        if roles > 16 || (words.len() as u64) < u64::from(size) * (1 + 4 * u64::from(roles)) {
+        if roles > u32::from(MOST_ROLES)
+            || words.len() < size as usize * Self::row_words(roles as u8)
+        {
             return Err(Refusal::TableSize.at(0, Layer::World));
         }
         if size == 0 || size > Self::MOST {
@@ -48,10 +63,19 @@ impl<'a> ModelTable<'a> {
         }
         *self = ModelTable {
             words,
-            roles: roles as usize,
+            roles: roles as u8,
             size,
         };
         Ok(())
+    }
+
+    /// The word at which the row of an element begins.
+    fn row(&self, element: u32) -> usize
+        requires { element < self.now.size }
+        ensures start { result ≡ element * row_width self.now.roles }
+        ensures within { result + row_width self.now.roles ≤ length self.now.words.now }
+    {
+        element as usize * Self::row_words(self.roles)
     }
 }
 
@@ -66,15 +90,16 @@ impl<'a> World for ModelTable<'a> {
         if element >= self.size {
             return ClassSet::empty();
         }
-        ClassSet::from_bits(self.words[element as usize * (1 + 4 * self.roles)])
+        ClassSet::from_bits(self.words[self.row(element)])
     }
 
     fn is_linked(&self, role: u8, from: u32, to: u32) -> bool {
-        if usize::from(role) >= self.roles || from >= self.size || to >= self.size {
+        if role >= self.roles || from >= self.size || to >= self.size {
             return false;
         }
-        let row = from as usize * (1 + 4 * self.roles);
-        let word = self.words[row + (1 + 4 * usize::from(role) + to as usize / 64)];
-        ClassSet::from_bits(word).contains((to % 64) as u8)
+        let to = to as usize;
+        let part = 1 + ROLE_WORDS * usize::from(role) + to / WORD_BITS;
+        let word = self.words[self.row(from) + part];
+        ClassSet::from_bits(word).contains((to % WORD_BITS) as u8)
     }
 }

@@ -1,11 +1,12 @@
 //! The interface of a world.
-ghost use Rattle.std.specs.Prelude.{◌≡◌, ℕ, ◌<◌, true, Decides};
+ghost use Rattle.std.specs.Prelude.{◌≡◌, ℕ, ◌<◌, Decides};
 ghost use Rattle.terms.specs.Sets.{has};
 ghost use Rattle.terms.specs.Refusals.{Answers, check, end, told};
 ghost use Rattle.worlds.specs.Worlds.{World as WorldOf, In, Linked, Successor};
 ghost use Rattle.worlds.specs.Audits.{in_world};
 
-use terms::{ClassSet, Fault, Layer, Refusal};
+use sources::source::MOST_ROLES;
+use terms::{ClassSet, Fault, Layer};
 
 /// A finite world: elements numbered from 0, at least one, the classes that each is in, and the pairs that each role links.
 pub trait World {
@@ -31,7 +32,7 @@ pub trait World {
             (λ v. v ≡ (meaning self.now).is_in element class) (told result) }
     {
         if element >= self.size() || class >= ClassSet::MOST {
-            return Err(Refusal::PastEnd.at(0, Layer::World));
+            return Err(Layer::World.past_end());
         }
         Ok(self.classes_of(element).contains(class))
     }
@@ -41,8 +42,8 @@ pub trait World {
         ensures { Answers (check 10 ((role < 16) × (from < (meaning self.now).size) × (to < (meaning self.now).size)) end) 0 in_world
             (λ v. v ≡ (meaning self.now).links role from to) (told result) }
     {
-        if role >= 16 || from >= self.size() || to >= self.size() {
-            return Err(Refusal::PastEnd.at(0, Layer::World));
+        if role >= MOST_ROLES || from >= self.size() || to >= self.size() {
+            return Err(Layer::World.past_end());
         }
         Ok(self.is_linked(role, from, to))
     }
@@ -51,35 +52,29 @@ pub trait World {
     fn some_successor(&self, element: u32, role: u8, class: u8) -> bool
         ensures { Decides result ((f : ℕ) × Successor (meaning self.now) role element f × In (meaning self.now) f class) }
     {
-        for other in 0..self.size() {
-            if self.is_linked(role, element, other) && self.classes_of(other).contains(class) {
-                return true;
-            }
-        }
-        false
+        let mut others = 0..self.size();
+        others.any(|other| {
+            self.is_linked(role, element, other) && self.classes_of(other).contains(class)
+        })
     }
 
     /// Whether every successor of the element by the role is in the class.
     fn every_successor(&self, element: u32, role: u8, class: u8) -> bool
         ensures { Decides result ((f : ℕ) → Successor (meaning self.now) role element f → In (meaning self.now) f class) }
     {
-        for other in 0..self.size() {
-            if self.is_linked(role, element, other) && !self.classes_of(other).contains(class) {
-                return false;
-            }
-        }
-        true
+        let mut others = 0..self.size();
+        others.all(|other| {
+            !self.is_linked(role, element, other) || self.classes_of(other).contains(class)
+        })
     }
 
     /// Whether every successor of the element by one role is one by the other.
     fn successors_within(&self, element: u32, sub: u8, sup: u8) -> bool
         ensures { Decides result ((f : ℕ) → Successor (meaning self.now) sub element f → Linked (meaning self.now) sup element f) }
     {
-        for other in 0..self.size() {
-            if self.is_linked(sub, element, other) && !self.is_linked(sup, element, other) {
-                return false;
-            }
-        }
-        true
+        let mut others = 0..self.size();
+        others.all(|other| {
+            !self.is_linked(sub, element, other) || self.is_linked(sup, element, other)
+        })
     }
 }

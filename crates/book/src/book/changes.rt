@@ -1,9 +1,8 @@
 //! Making a book, and changing its own axioms.
 ghost use Rattle.std.specs.Prelude.{◌≡◌, []};
 ghost use Rattle.terms.specs.Refusals.{told};
-ghost use Rattle.sources.specs.Meanings.{Limits};
 ghost use Rattle.book.specs.Books.{PlainAdd, PlainAmend, PlainStrike, Settles};
-ghost use Rattle.book.specs.Owned.{own_of, whole_of};
+ghost use Rattle.book.specs.Owned.{own_of};
 
 use crate::book::{Book, MOST_OWN};
 use sources::Source;
@@ -17,28 +16,24 @@ fn rewrite(slot: &mut Axiom, axiom: Axiom)
     *slot = axiom;
 }
 
+// `over` compares the source before a call with the source after it, which no type can keep.
 impl<S: Source> Book<S> {
     /// A book over the source, with no axioms of its own.
     pub fn new(source: S) -> Self
-        requires { Limits (S.Source.meaning source) }
         ensures over { result.source ≡ source }
         ensures none { own_of result ≡ [] }
-        ensures keeps { Limits (whole_of S.Source.meaning result) }
     {
-        let unused = Axiom::RoleInclusion { sub: 0, sup: 0 };
         Book {
             source,
-            own: [unused; MOST_OWN],
+            own: [Axiom::default(); MOST_OWN],
             count: 0,
         }
     }
 
     /// Puts an axiom at the end of the book.
     pub fn add(&mut self, axiom: Axiom) -> Result<(), Fault>
-        requires { Limits (whole_of S.Source.meaning self.old) }
         ensures plain { Settles (PlainAdd (S.Source.meaning self.old.source) (own_of self.old) «axiom») (told result) (own_of self.new) }
         ensures over { self.new.source ≡ self.old.source }
-        ensures keeps { Limits (whole_of S.Source.meaning self.new) }
     {
         axiom.check(self.class_count(), self.role_count(), 0, Layer::Book)?;
         if self.count == MOST_OWN {
@@ -54,10 +49,8 @@ impl<S: Source> Book<S> {
 
     /// Rewrites an own axiom inside the book; every other stays.
     pub fn amend(&mut self, number: usize, axiom: Axiom) -> Result<(), Fault>
-        requires { Limits (whole_of S.Source.meaning self.old) }
         ensures plain { Settles (PlainAmend (S.Source.meaning self.old.source) (own_of self.old) number «axiom») (told result) (own_of self.new) }
         ensures over { self.new.source ≡ self.old.source }
-        ensures keeps { Limits (whole_of S.Source.meaning self.new) }
     {
         axiom.check(self.class_count(), self.role_count(), 0, Layer::Book)?;
         if number >= self.count {
@@ -69,10 +62,8 @@ impl<S: Source> Book<S> {
 
     /// Takes an own axiom out; the later ones move down by one.
     pub fn strike(&mut self, number: usize) -> Result<(), Fault>
-        requires { Limits (whole_of S.Source.meaning self.old) }
         ensures plain { Settles (PlainStrike (own_of self.old) number) (told result) (own_of self.new) }
         ensures over { self.new.source ≡ self.old.source }
-        ensures keeps { Limits (whole_of S.Source.meaning self.new) }
     {
         if number >= self.count {
             return Err(Refusal::NoOwnAxiom.at(0, Layer::Book));

@@ -1,8 +1,10 @@
-use Rattle.tables.specs.Tables.{tables, context_in}
+use Rattle.tables.specs.Tables.{context_in}
 use Rattle.tables.specs.Adding.{Adds, Below}
+use Rattle.tables.specs.Lent.{lent, SameLent, ContextsKept}
 use Rattle.saturation.specs.Conclusions.{NoLower}
 use Rattle.saturation.proofs.contexts.grant.Given as goal
 
-abbrev pub invariant-loop-k : goal.invariant-loop-k
-invariant-loop-k l =
-    Adds (Below l.axioms l.k (NoLower (context_in l.initial.contexts l.slot))) (tables l.initial.contexts l.initial.clauses l.initial.counts) (tables l.initial.contexts l.clauses l.counts)
+abbrev pub invariant-loop-axiom : goal.invariant-loop-axiom
+invariant-loop-axiom l =
+    Adds (Below l.axioms l.axiom-index (NoLower (context_in l.initial.tables.contexts.now l.slot))) (lent l.initial.tables) (lent l.tables)
+    × SameLent l.initial.tables l.tables × ContextsKept l.initial.tables l.tables

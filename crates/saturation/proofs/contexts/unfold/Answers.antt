@@ -1,8 +1,9 @@
-use Rattle.saturation.proofs.Unfolding.{unfold_enters, unfold_stuck}
+use Rattle.tables.proofs.Additions.{ends_stuck}
+use Rattle.saturation.proofs.Unfolding.{unfold_ends, unfold_stuck}
 use Rattle.saturation.proofs.contexts.unfold.Goals as goal
 
-pub returns-in-Err : goal.returns-in-Err
-returns-in-Err c = let q = c.in-Err.ensures in (q.0, unfold_stuck _ q.1)
+pub returns-clause-unfolds : goal.returns-clause-unfolds
+returns-clause-unfolds c = unfold_ends _ _ _ _ _ c.in_ok-hold.ensures.kept.contexts c.in_ok-hold.ensures.holds c.grant.ensures.grants
 
-pub returns : goal.returns
-returns c = unfold_enters _ _ _ c.in-Ok.ensures c.grant.ensures
+pub returns-in_err-hold-clause-unfolds : goal.returns-in_err-hold-clause-unfolds
+returns-in_err-hold-clause-unfolds c = ends_stuck _ _ _ c.from_residual.result c.from_residual.ensures.1 (unfold_stuck _ c.in_err-hold.ensures.holds)

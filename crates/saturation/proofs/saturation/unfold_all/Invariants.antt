@@ -1,9 +1,10 @@
 use Rattle.std.proofs.Common.{◌≤◌}
-use Rattle.tables.specs.Tables.{tables}
 use Rattle.tables.specs.Adding.{Adds}
+use Rattle.tables.specs.Lent.{lent, SameLent, ContextsKept}
 use Rattle.saturation.specs.Conclusions.{FromSlots}
 use Rattle.saturation.proofs.saturation.unfold_all.Given as goal
 
 abbrev pub invariant-loop-slot : goal.invariant-loop-slot
 invariant-loop-slot l =
-    Adds (FromSlots l.axioms l.contexts l.initial.slot l.slot) (tables l.contexts l.initial.clauses l.initial.counts) (tables l.contexts l.clauses l.counts) × (l.initial.slot ≤ l.slot)
+    Adds (FromSlots l.axioms l.initial.tables.contexts.now l.from l.slot) (lent l.initial.tables) (lent l.tables) × (l.from ≤ l.slot)
+    × SameLent l.initial.tables l.tables × ContextsKept l.initial.tables l.tables

@@ -1,77 +1,59 @@
-use Rattle.std.proofs.Common.{sym, ap, ◌∙◌, subst, inl, inr, ⊎_elim, arith}
-use Rattle.std.proofs.ByRecursion.{All-get_or}
-use Rattle.std.proofs.lemmas.Result.{err_from_is_err_and}
-use Rattle.terms.specs.Axioms.{WellFormed}
-use Rattle.closure.specs.Closures.{Head, rising}
-use Rattle.tables.specs.declared.records.ClauseRecord.{ClauseRecord}
+use Rattle.std.proofs.Common.{subst, sym, inl, inr, ⊎_elim, arith}
 use Rattle.tables.proofs.Slots.{holds_get_or}
-use Rattle.tables.proofs.Additions.{adds_then, stuck_as, stuck_then, below_none, below_more, below_stuck, below_end}
+use Rattle.tables.proofs.Lending.{same_then}
+use Rattle.tables.proofs.Additions.{adds_then, ends_stuck, stuck_as, stuck_then, below_none, below_more, below_stuck, below_end}
 use Rattle.saturation.specs.Conclusions.{Headed, Brought, DeniedHead}
-use Rattle.saturation.proofs.Givens.{given_same, given_cited, given_on, given_any, none_headless}
+use Rattle.saturation.proofs.Tops.{tops_of}
+use Rattle.saturation.specs.Choices.{given_record}
+use Rattle.saturation.proofs.Givens.{given_cited, given_on, given_any, tops_on, denied_one, none_headless}
 use Rattle.saturation.proofs.turns.alone.Goals as goal
 
-pub returns-in-None : goal.returns-in-None
-returns-in-None c d Ts given = none_headless c.requires.good (λ a h. c.in-None.ensures c.args.contexts.now a (subst (λ x. Headed x a) (sym given.means) h))
+pub returns-in_default-clause-gives : goal.returns-in_default-clause-gives
+returns-in_default-clause-gives c d Ts given =
+    none_headless c.args.tables.now.good (λ a h. c.in_default.ensures a (tops_of (given_record c.args.tables.now.clauses.now c.args.slot) c.args.tables.now.contexts.now (subst (λ x. Headed x a) (sym given.means) h)))
 
-pub deny-requires : goal.deny-requires
-deny-requires c = record { good = c.requires.good; cited = given_cited c.requires.good c.requires.used; headed = c.in-Some.ensures }
+pub deny-requires-clause-cited : goal.deny-requires-clause-cited
+deny-requires-clause-cited c = given_cited c.args.tables.now.good c.requires
 
-pub loop-k-init : goal.loop-k-init
-loop-k-init c =
-    let p = c.in_ok-counts.ensures in
-    let e = given_same p.grows c.args.slot c.requires.used in
-    let h = c.in-Some.ensures in (
-      p.grows.good,
-      omega (arith, c.requires.used, p.grows.clauses.more),
-      λ d Ts given. below_none p.grows.good,
-      ap (λ (x : ClauseRecord). x.part) e ∙ h.1,
-      subst (λ (x : ClauseRecord). Head rising x.classes.bits c.in-Some.top) (sym e) h.2,
-    )
+pub loop-axiom-init : goal.loop-axiom-init
+loop-axiom-init c =
+    let w = c.in_ok-deny.ensures.denies.grows in
+    (λ d Ts given. below_none w.good, omega (arith, c.requires, w.clauses.more), tops_on w c.requires c.in-Some.ensures.0, c.in_ok-deny.ensures.same)
 
-pub apply-requires : goal.apply-requires
-apply-requires c =
-    let i = c.loop-k.invariant in
-    let a = given_any _ _ i.0 i.1 in
-    let w = (i.2 _ a.0 a.1).grows in
-    let e = given_same w c.args.slot i.1 in
-    record {
-      formed = All-get_or (WellFormed 64 16) c.args.axioms.now _ _ (omega arith) c.requires.formed;
-      good = w.good;
-      few = omega (arith, c.requires.few, w.contexts.size);
-      used = omega (arith, i.1, w.clauses.more);
-      headed = (c.in-Some.ensures.0, ap (λ (x : ClauseRecord). x.part) e ∙ i.3, subst (λ (x : ClauseRecord). Head rising x.classes.bits c.in-Some.top) (sym e) i.4);
-    }
+pub apply-requires-clause-used : goal.apply-requires-clause-used
+apply-requires-clause-used c =
+    let a = given_any _ _ c.deny.new.tables.good c.loop-axiom.invariant.1 in
+    omega (arith, c.loop-axiom.invariant.1, (c.loop-axiom.invariant.0 _ a.0 a.1).grows.clauses.more)
 
-pub loop-k-preserved : goal.loop-k-preserved
-loop-k-preserved c =
-    let i = c.loop-k.invariant in (
-      i.0,
-      i.1,
-      λ d Ts given.
-          let p = i.2 d Ts given in
-          below_more (holds_get_or _ _ _ (omega arith)) p (c.in_ok-counts-2.ensures d Ts (given_on i.0 p.grows given)),
-      i.3,
-      i.4,
-    )
+pub apply-requires-clause-headed : goal.apply-requires-clause-headed
+apply-requires-clause-headed c =
+    let a = given_any _ _ c.deny.new.tables.good c.loop-axiom.invariant.1 in
+    (tops_on (c.loop-axiom.invariant.0 _ a.0 a.1).grows c.loop-axiom.invariant.1 c.loop-axiom.invariant.2, c.in-Some.ensures.1)
 
-pub returns-in_err-counts : goal.returns-in_err-counts
-returns-in_err-counts c d Ts given =
-    let p = err_from_is_err_and c.from_residual.result c.from_residual.ensures.1 in
-    let q = c.in_err-counts.ensures in
-    rw p.1 (q.0, stuck_as q.1 (λ m b. inl (subst (λ x. Brought (DeniedHead x) m) given.means b)))
+pub loop-axiom-preserved : goal.loop-axiom-preserved
+loop-axiom-preserved c = (
+  λ d Ts given.
+      let p = c.loop-axiom.invariant.0 d Ts given in
+      below_more (holds_get_or _ _ _ c.loop-axiom-test.true) p (c.in_ok-apply.ensures.applies d Ts (given_on c.deny.new.tables.good p.grows given)),
+  c.loop-axiom.invariant.1,
+  c.loop-axiom.invariant.2,
+  same_then c.loop-axiom.invariant.3 c.in_ok-apply.ensures.same,
+)
 
-pub returns-in_err-counts-2 : goal.returns-in_err-counts-2
-returns-in_err-counts-2 c d Ts given =
-    let p = err_from_is_err_and c.from_residual-in_err-counts-2.result c.from_residual-in_err-counts-2.ensures.1 in
-    let first = c.in_ok-counts.ensures in
-    let i = c.loop-k.invariant in
-    let then = given_on c.requires.good first.grows given in
-    let more = i.2 d Ts then in
-    let q = c.in_err-counts-2.ensures d Ts (given_on i.0 more.grows then) in
-    rw p.1 (q.0, stuck_then first (below_stuck (omega arith) (holds_get_or _ _ _ (omega arith)) more q.1) (λ m b. inl (subst (λ x. Brought (DeniedHead x) m) given.means b)) (λ m b. inr b))
+pub returns-in_err-deny-clause-gives : goal.returns-in_err-deny-clause-gives
+returns-in_err-deny-clause-gives c d Ts given =
+    ends_stuck _ _ _ c.from_residual.result c.from_residual.ensures.1 (stuck_as c.in_err-deny.ensures.denies (denied_one given.means))
 
-pub returns : goal.returns
-returns c d Ts given =
-    let first = c.in_ok-counts.ensures in
-    adds_then first (below_end (omega arith) (omega arith) (c.loop-k.invariant.2 d Ts (given_on c.requires.good first.grows given)))
-    (λ m o. ⊎_elim (λ b. inl (subst (λ x. Brought (DeniedHead x) m) (sym given.means) b)) inr o) (λ m b. inl (subst (λ x. Brought (DeniedHead x) m) given.means b)) (λ m b. inr b)
+pub returns-in_err-apply-clause-gives : goal.returns-in_err-apply-clause-gives
+returns-in_err-apply-clause-gives c d Ts given =
+    let first = c.in_ok-deny.ensures.denies in
+    let then = given_on c.args.tables.now.good first.grows given in
+    let more = c.loop-axiom.invariant.0 d Ts then in
+    ends_stuck _ _ _ c.from_residual-in_err-apply.result c.from_residual-in_err-apply.ensures.1
+    (stuck_then first (below_stuck c.loop-axiom-test.true (holds_get_or _ _ _ c.loop-axiom-test.true) more (c.in_err-apply.ensures.applies d Ts (given_on first.grows.good more.grows then))) (denied_one given.means) (λ m b. inr b))
+
+pub returns-clause-gives : goal.returns-clause-gives
+returns-clause-gives c d Ts given =
+    let first = c.in_ok-deny.ensures.denies in
+    adds_then first (below_end (omega arith) (omega arith) (c.loop-axiom.invariant.0 d Ts (given_on c.args.tables.now.good first.grows given)))
+    (λ m o. ⊎_elim (λ b. inl (subst (λ x. Brought (DeniedHead x) m) (sym given.means) b)) inr o) (denied_one given.means) (λ m b. inr b)

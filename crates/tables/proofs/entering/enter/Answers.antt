@@ -1,13 +1,15 @@
-use Rattle.std.proofs.Common.{◌≡◌, ℕ, ◌<◌, length, set, refl, inr, arith, get_or-set_same, below_more}
+use Rattle.std.proofs.Common.{◌<◌, length, set, sym, ◌∙◌, refl, inl, inr, arith, get_or-set_same}
+use Rattle.tables.proofs.Finding.{found, not_found}
 use Rattle.tables.proofs.entering.enter.Goals as goal
 
-pub loop-i-preserved : goal.loop-i-preserved
-loop-i-preserved g c =
-    below_more _ _ c.loop-i.invariant (λ h. let e = c.if-same.ensures.1 (h.is c.index-table-i.result) in let z : ◌≡◌ {A = ℕ} 0 1 = cc in omega arith)
+pub returns-in-Some : goal.returns-in-Some
+returns-in-Some g c =
+    let f = found g.R.PartialEq.eq g.met.R.Same.decides c.args.table.now c.args.used c.args.record c.requires c.in-Some.slot (sym c.find.ensures ∙ c.in-Some.is) in
+    record { below = f.0; there = f.1; way = inl (record { no_more = refl; same = refl }) }
 
 pub returns-then-used-table : goal.returns-then-used-table
 returns-then-used-table g c =
-    record { same = refl; full = omega arith; absent = λ a. c.loop-i.invariant a.slot (omega (arith, a.below)) a.holds }
+    record { same = refl; full = c.if-used-table.true; absent = not_found g.R.PartialEq.eq g.met.R.Same.decides c.args.table.now c.args.used c.args.record c.requires (sym c.find.ensures ∙ c.in_default.is) }
 
 pub returns : goal.returns
 returns g c =
@@ -15,5 +17,11 @@ returns g c =
     record {
       below = omega arith;
       there = record { is = λ d. get_or-set_same _ _ _ _ lt };
-      way = inr (record { absent = λ a. c.loop-i.invariant a.slot (omega (arith, a.below)) a.holds; free = lt; next = refl; one_more = refl; written = refl {a = set c.args.table.now c.args.used c.args.record} });
+      way = inr (record {
+        absent = not_found g.R.PartialEq.eq g.met.R.Same.decides c.args.table.now c.args.used c.args.record c.requires (sym c.find.ensures ∙ c.in_default.is);
+        free = lt;
+        next = refl;
+        one_more = refl;
+        written = refl {a = set c.args.table.now c.args.used c.args.record};
+      });
     }

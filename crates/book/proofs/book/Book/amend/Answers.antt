@@ -1,26 +1,23 @@
-use Rattle.std.proofs.Common.{◌≡◌, take, set, sym, refl, ap, ◌∙◌, subst, arith}
-use Rattle.std.proofs.lemmas.List.{length-take-le}
-use Rattle.terms.specs.Refusals.{done}
-use Rattle.sources.specs.Meanings.{Limits}
-use Rattle.book.specs.Books.{book_meaning, amend_checks, amended}
-use Rattle.book.proofs.Outcomes.{settled}
+use Rattle.std.proofs.Common.{◌<◌, arith, rules}
+use Rattle.std.proofs.Math.Seq.{take-set-lt}
+use Rattle.std.proofs.lemmas.List.{length-take-le, places}
+use Rattle.std.proofs.lemmas.Grind.{common_steps}
 use Rattle.book.proofs.Keeping.{checked, limits_amend}
-use Rattle.book.proofs.Slots.{take_amended}
 use Rattle.book.proofs.book.Book.amend.Goals as goal
 
-pub returns : goal.returns
-returns g c =
-    let m = g.S.Source.meaning c.args.self.now.source in
-    let slots = c.args.self.now.own in
-    let n = c.args.self.now.count in
-    let own = take n slots in
-    let i = c.args.number in
-    let a = c.args.axiom in
-    let formed = checked m a c.class_count.result c.role_count.result c.class_count.ensures c.role_count.ensures c.in_ok-check.ensures.0 in
-    let size = length-take-le n slots (omega arith) in
-    let changed : take n (set slots i c.rewrite.new.slot) ≡ amended own i a = ap (λ x. take n (set slots i x)) c.rewrite.ensures ∙ take_amended n slots i a in
+pub invariant_of-self : goal.invariant_of-self
+invariant_of-self g c =
+    let inside : c.args.number < c.args.self.now.count = omega arith in
     record {
-      plain = settled (amend_checks m own i a) own (amended own i a) (done tt) _ ((formed.0, (formed.1, (omega arith, tt))), tt) changed;
-      over = refl {a = c.args.self.now.source};
-      keeps = subst (λ xs. Limits (book_meaning m xs)) (sym changed) (limits_amend m own c.requires i a formed);
+      few = omega arith;
+      whole = search (rules, places);
+      limits = rw (c.rewrite.ensures, take-set-lt c.args.self.now.count c.args.self.now.own c.args.number c.args.axiom inside)
+          (limits_amend _ _ c.args.self.now.limits c.args.number c.args.axiom (checked (g.S.Source.meaning c.args.self.now.source) _ _ _ c.class_count.ensures c.role_count.ensures c.in_ok-check.ensures.0));
     }
+
+-- `size` is a lemma of std at the book's slots, which a lemma of the book would only name anew.
+pub returns-clause-plain : goal.returns-clause-plain
+returns-clause-plain g c =
+    let inside : c.args.number < c.args.self.now.count = omega arith in
+    let size = length-take-le c.args.self.now.count c.args.self.now.own (omega arith) in
+    rw (c.rewrite.ensures, take-set-lt c.args.self.now.count c.args.self.now.own c.args.number c.args.axiom inside) (grind (arith, common_steps))

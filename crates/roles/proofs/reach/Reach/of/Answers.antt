@@ -1,27 +1,36 @@
-use Rattle.std.proofs.Common.{◌≡◌, ◌-◌, ◌∙◌, arith}
-use Rattle.roles.proofs.Rows.{tested_none, tested_other, tested_more, tested_shows, sup_low, own_turn}
+use Rattle.std.proofs.Common.{rules, ◌≡◌, [], ◌++◌, sym, ◌∙◌, ap, subst, append-nil, arith}
+use Rattle.std.proofs.lemmas.List.{nil_from_length}
+use Rattle.roles.proofs.Rows.{Tested, tested_none, tested_other, tested_more, tested_shows, one_done, sup_low, own_turn}
 use Rattle.roles.proofs.reach.Reach.of.Goals as goal
 
 pub loop-role-preserved : goal.loop-role-preserved
-loop-role-preserved c = own_turn c.loop-role.rows c.loop-role.role c.from.result c.bits.result (omega arith) c.from.ensures (c.bits.ensures ∙ c.single.ensures) c.loop-role.invariant
+loop-role-preserved c = own_turn c.loop-role.row-items c.loop-role.role c.bits.result c.loop-role-test.true (c.bits.ensures ∙ c.single.ensures) c.loop-role.invariant
 
-pub loop-i-init : goal.loop-i-init
-loop-i-init c = (c.loop-role.invariant.0, tested_none c.args.axioms.now c.loop-role.rows (λ p l. c.loop-role.invariant.1 p (omega arith)))
+pub loop-axiom-init : goal.loop-axiom-init
+loop-axiom-init c =
+    let all : c.into_iter-axiom-iterator.result.iter.rest.now ≡ c.args.axioms.now = search rules in
+    (c.loop-role.invariant.0, ([], sym (append-nil _ ∙ all), tested_none c.loop-role.row-items (λ p l. c.loop-role.invariant.1 p (omega arith))))
 
 pub include-requires : goal.include-requires
 include-requires c =
-    (c.loop-i.invariant.0, sup_low c.args.axioms.now (c.loop-i.i - 1) c.in-RoleInclusion.sub c.in-RoleInclusion.sup c.requires (omega arith) c.in-RoleInclusion.is)
+    let i = c.loop-axiom.invariant in
+    (i.0, sup_low _ _ i.1.0 _ _ _ c.requires (one_done _ _ _ i.1.0 _ i.1.1 c.in-Some.ensures.steps) c.in-RoleInclusion.is)
 
-pub loop-i-preserved-in-RoleInclusion : goal.loop-i-preserved-in-RoleInclusion
-loop-i-preserved-in-RoleInclusion c =
-    let low = sup_low c.args.axioms.now (c.loop-i.i - 1) c.in-RoleInclusion.sub c.in-RoleInclusion.sup c.requires (omega arith) c.in-RoleInclusion.is in (
-      c.include.auto.rows ∙ c.loop-i.invariant.0,
-      tested_more c.args.axioms.now c.loop-i.i c.in-RoleInclusion.sub c.in-RoleInclusion.sup c.loop-i.rows c.include.new.rows (omega arith) (omega arith)
-          c.in-RoleInclusion.is low c.include.ensures c.loop-i.invariant.1,
-    )
+pub loop-axiom-preserved-in-RoleInclusion : goal.loop-axiom-preserved-in-RoleInclusion
+loop-axiom-preserved-in-RoleInclusion c =
+    let i = c.loop-axiom.invariant in
+    let e = one_done _ _ _ i.1.0 _ i.1.1 c.in-Some.ensures.steps in
+    (c.include.auto.rows ∙ i.0, (_, e, tested_more _ i.1.0 _ _ c.loop-axiom.rows c.include.new.rows c.in-RoleInclusion.is (sup_low _ _ i.1.0 _ _ _ c.requires e c.in-RoleInclusion.is) c.include.ensures i.1.2))
 
-pub loop-i-preserved : goal.loop-i-preserved
-loop-i-preserved c = (c.loop-i.invariant.0, tested_other c.args.axioms.now c.loop-i.i c.loop-i.rows (omega arith) (omega arith) c.in_default.not-RoleInclusion c.loop-i.invariant.1)
+pub loop-axiom-preserved : goal.loop-axiom-preserved
+loop-axiom-preserved c =
+    let i = c.loop-axiom.invariant in
+    (i.0, (_, one_done _ _ _ i.1.0 _ i.1.1 c.in-Some.ensures.steps, tested_other _ i.1.0 c.loop-axiom.rows c.in_default.not-RoleInclusion i.1.2))
+
+pub invariant_of-result : goal.invariant_of-result
+invariant_of-result c = record { ok = c.loop-axiom.invariant.0 }
 
 pub returns : goal.returns
-returns c = tested_shows c.args.axioms.now c.loop-i.rows c.loop-i.invariant.0 c.requires (let z : c.loop-i.i ≡ 0 = omega arith in rw z at c.loop-i.invariant.1)
+returns c =
+    let i = c.loop-axiom.invariant in
+    tested_shows c.args.axioms.now c.loop-axiom.rows i.0 c.requires (subst (λ xs. Tested xs c.loop-axiom.rows) (sym (i.1.1 ∙ ap (λ r. r ++ i.1.0) (nil_from_length _ c.in-None.ensures.steps.0))) i.1.2)

@@ -1,29 +1,23 @@
-use Rattle.std.proofs.Common.{sym, subst, arith}
-use Rattle.worlds.proofs.Walks.{walk_less}
-use Rattle.worlds.proofs.Collecting.{Collects, collect_none, collect_skip, collect_mark, collect_all}
+use Rattle.std.proofs.Common.{length, sym, ap, subst, ◌∙◌, map-id, arith}
+use Rattle.std.specs.List.{list_any}
+use Rattle.std.proofs.lemmas.Iterator.Consumers.{YieldsList-turn, YieldsList-end}
+use Rattle.worlds.specs.Entries.{Fits, links_from}
+use Rattle.worlds.proofs.Chaining.{each_from, yields_links}
+use Rattle.worlds.proofs.Successors.{leads, leads_linked}
 use Rattle.worlds.proofs.entry_table.EntryTable.successors.Goals as goal
-use Rattle.worlds.proofs.entry_table.EntryTable.successors.Goals.{then-link-role, else-link-role}
 
-pub loop-at-init : goal.loop-at-init
-loop-at-init c = collect_none c.args.self.now.links.now c.args.role c.args.element c.last_link-at.result c.new-marks.result.words c.last_link-at.ensures c.new-marks.ensures
-
-pub loop-at-smaller : goal.loop-at-smaller
-loop-at-smaller c = walk_less c.args.self.now.links.now c.loop-at.at c.link_before-at.result (omega arith) c.link_before-at.ensures
-
-pub loop-at-preserved : goal.loop-at-preserved
-loop-at-preserved c =
-    let xs = c.args.self.now.links.now in
-    let k = c.args.role in
-    let d = c.args.element in
-    let next = c.link_before-at.result in
-    elim c.if-link-role.branch [
-      | then-link-role w ↦
-          subst (λ m. Collects xs k d next m.words) (sym w.marks-is)
-          (collect_mark xs k d c.loop-at.invariant (omega arith) next c.link_before-at.ensures w.if-link-role.true w.set.new.self.words w.set.ensures)
-      | else-link-role w ↦
-          subst (λ m. Collects xs k d next m.words) (sym w.marks-is)
-          (collect_skip xs k d c.loop-at.invariant (omega arith) next c.link_before-at.ensures w.if-link-role.false)
-    ]
+pub set-requires : goal.set-requires
+set-requires c =
+    let t = c.args.self.now in
+    let xs = t.chains.links.now in
+    let link = c.in-Some.link in
+    let turn = YieldsList-turn (yields_links (links_from xs c.args.element (length xs)) (cc)) c.loop-link.yielded _ c.loop-link.yielded_by _ c.next.new.self link c.in-Some.is c.next.ensures.steps in
+    let fits = subst (Fits (length t.classes.now)) (sym turn.1) (each_from xs (Fits (length t.classes.now)) c.args.element (length xs) (length c.loop-link.yielded) link t.fit turn.0) in
+    (omega arith, omega (arith, fits.2, t.sized.1))
 
 pub returns : goal.returns
-returns c = collect_all c.args.self.now.links.now c.args.role c.args.element c.loop-at.invariant (omega arith)
+returns c f =
+    let t = c.args.self.now in
+    let xs = t.chains.links.now in
+    let end = YieldsList-end (yields_links (links_from xs c.args.element (length xs)) (cc)) c.loop-link.yielded _ c.loop-link.yielded_by _ c.next.new.self c.in-None.is c.next.ensures.steps in
+    c.loop-link.invariant f ∙ ap (list_any (leads c.args.role f)) (sym (map-id c.loop-link.yielded) ∙ end.0) ∙ leads_linked xs c.args.role c.args.element f

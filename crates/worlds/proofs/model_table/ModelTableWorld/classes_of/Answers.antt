@@ -1,9 +1,8 @@
-use Rattle.std.proofs.Common.{◌+◌, ◌*◌, length, ap, ◌∙◌, arith}
+use Rattle.std.proofs.Common.{ap, ◌∙◌, arith}
 use Rattle.std.proofs.lemmas.Bool.{le-ltb}
 use Rattle.std.proofs.lemmas.Bool.Decides.{nat_tests}
 use Rattle.terms.specs.Sets.{has}
 use Rattle.terms.proofs.Masks.{has_none}
-use Rattle.worlds.proofs.Rows.{row_within}
 use Rattle.worlds.proofs.model_table.ModelTableWorld.classes_of.Goals as goal
 
 pub returns-then-element-self : goal.returns-then-element-self
@@ -11,9 +10,3 @@ returns-then-element-self c a =
     let none = ap (λ s. has s a) c.empty.ensures ∙ has_none a in
     let past = le-ltb c.args.element c.args.self.now.size (omega arith) in
     grind (arith, nat_tests)
-
-pub bounds-self-element : goal.bounds-self-element
-bounds-self-element c =
-    let t = c.args.self.now in
-    let in' = row_within t.size c.args.element (1 + 4 * t.roles) 0 (length t.words.now) (omega arith) (omega arith) t.ok.3 in
-    omega arith
