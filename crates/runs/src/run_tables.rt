@@ -1,7 +1,7 @@
 //! The tables of a run.
 use tables::{ClauseRecord, ContextRecord};
 
-/// The tables that the caller lends, which every call of a run fills anew.
+/// The three tables that are lent for a whole run.
 #[derive(Drop)]
 pub struct RunTables<'a> {
     /// The context slots.
