@@ -34,6 +34,11 @@ fn set(words: &mut Split<char>) -> ClassSet {
     ClassSet::from_bits(number(words).map_or(u64::MAX, |bits| bits as u64))
 }
 
+/// The words of a model table; what is no number, and the greatest one, is read as no table.
+fn model_words(words: &mut Split<char>) -> Option<usize> {
+    number(words).filter(|words| *words < usize::MAX)
+}
+
 /// How many slots a table has; what is no number is read as more than memory has.
 fn slots(words: &mut Split<char>) -> usize {
     number(words).unwrap_or(usize::MAX)
@@ -79,7 +84,7 @@ pub fn read(heap: Global, line: &str) -> Result<Case, AllocError> {
         denied: set(&mut words),
         context_slots: slots(&mut words),
         clause_slots: slots(&mut words),
-        words: number(&mut words),
+        words: model_words(&mut words),
         axioms: words.map(axiom).collect(heap)?,
     })
 }

@@ -55,6 +55,19 @@ impl fmt::Display for Difference {
     }
 }
 
+/// What the comparison came to: `ok`, or how they differ.
+#[derive(Clone, Copy, PartialEq, Eq, Debug)]
+pub struct Compared(pub Result<(), Difference>);
+
+impl fmt::Display for Compared {
+    fn fmt<W: fmt::Write>(&self, f: &mut fmt::Formatter<W>) -> fmt::Result {
+        match self.0 {
+            Ok(()) => f.write_str("ok"),
+            Err(difference) => difference.fmt(f),
+        }
+    }
+}
+
 /// Each slot of a context table before the call: no member of a closure here.
 pub fn blank_context() -> ContextRecord {
     ContextRecord {
@@ -149,10 +162,10 @@ impl<'a> Tables<'a> {
         })
     }
 
-    /// Whether the clauses are members, none of them twice; the contexts are members, none of them twice.
-    fn are_clauses(self, naive: &Naive) -> bool {
-        are_distinct(self.clauses)
-            && self.clauses.iter().all(|clause| {
+    /// Whether the clauses, which may cite any slot, are members, none of them twice; the contexts are members, none of them twice.
+    fn are_clauses(self, naive: &Naive, clauses: &[ClauseRecord]) -> bool {
+        are_distinct(clauses)
+            && clauses.iter().all(|clause| {
                 self.clause_there(naive, *clause)
                     .is_some_and(|clause| naive.has_clause(clause))
             })
@@ -211,15 +224,15 @@ fn compare_refusal(fault: Fault, due: Refusal, used: Counts) -> Result<(), Diffe
     Ok(())
 }
 
-/// Whether the used slots have members, each once, the goal first.
-fn compare_members(naive: &Naive, used: Tables) -> Result<(), Difference> {
+/// Whether the used slots of the tables have members, each once, the goal first.
+fn compare_members(naive: &Naive, tables: Tables, used: Tables) -> Result<(), Difference> {
     if naive.full {
         return Err(Difference::TooManyMembers);
     }
     if !used.are_contexts(naive) {
         return Err(Difference::Contexts);
     }
-    if !used.are_clauses(naive) {
+    if !tables.are_clauses(naive, used.clauses) {
         return Err(Difference::Clauses);
     }
     Ok(())
@@ -239,7 +252,7 @@ fn compare_tables(
         (Ok(_), Some(_)) => return Err(Difference::RefusalDue),
         (Err(_), None) => return Err(Difference::AnswerDue),
     }
-    compare_members(naive, used)
+    compare_members(naive, tables, used)
 }
 
 /// Whether the first rows are a world that obeys the axioms and whose element 0 is in all held and no denied classes.

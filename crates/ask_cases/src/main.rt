@@ -11,36 +11,40 @@ mod comparison;
 mod naive;
 
 use cases::Case;
-use comparison::{BLANK_WORD, Difference, Tables, compare, counts};
+use comparison::{BLANK_WORD, Compared, Tables, compare, counts};
 use naive::Naive;
 use reasoner::{Answer, ask, ask_model};
 use sources::RecordTable;
-use std::alloc::{AllocError, Global};
 use std::io;
 use std::io::{BufRead, BufReader};
 use tables::{ClauseRecord, ContextRecord};
 use terms::Fault;
 
 /// The closure of the case's question; of the goal alone where it is to be refused for its classes.
-fn closure(heap: Global, case: &Case) -> Result<Naive, AllocError> {
+fn closure(case: &Case) -> Naive {
     let goal = ContextRecord {
         held: case.held,
         denied: case.denied,
     };
-    let mut naive = Naive::new(heap, goal)?;
+    let mut naive = Naive::new(goal);
     if case.held.is_below(case.classes) && case.denied.is_below(case.classes) {
-        naive.saturate(heap, &case.axioms)?;
+        naive.saturate(&case.axioms);
     }
-    Ok(naive)
+    naive
 }
 
-/// Prints what a call told, with the first word of the model table where there is a model.
-fn print_told(rt: &HostRuntime, told: Result<Answer, Fault>, first: Option<u64>) -> io::Result<()> {
+/// Prints what a call told, with the first word of the model table where there is a model, and what differs.
+fn print_line(
+    rt: &HostRuntime,
+    told: Result<Answer, Fault>,
+    first: Option<u64>,
+    compared: Compared,
+) -> io::Result<()> {
     let answer = match told {
         Ok(answer) => answer,
         Err(fault) => {
             let layer = fault.layer;
-            return print!(rt; "{fault}, layer {layer:?}: ");
+            return println!(rt; "{fault}, layer {layer:?}: {compared}");
         }
     };
     let (verdict, elements) = match answer {
@@ -50,15 +54,7 @@ fn print_told(rt: &HostRuntime, told: Result<Answer, Fault>, first: Option<u64>)
     let contexts = counts(answer).contexts;
     let clauses = counts(answer).clauses;
     let word = elements.and(first).unwrap_or(0);
-    print!(rt; "{verdict}, contexts {contexts}, clauses {clauses}, word {word}: ")
-}
-
-/// Prints what differs, and ends the line.
-fn print_difference(rt: &HostRuntime, compared: Result<(), Difference>) -> io::Result<()> {
-    match compared {
-        Ok(()) => println!(rt; "ok"),
-        Err(difference) => println!(rt; "{difference}"),
-    }
+    println!(rt; "{verdict}, contexts {contexts}, clauses {clauses}, word {word}: {compared}")
 }
 
 /// Makes the call of a case with these tables, and prints what came of it.
@@ -77,10 +73,9 @@ fn carry_out(
         Some(_) => ask_model(&source, case.held, case.denied, contexts, clauses, model),
         None => ask(&source, case.held, case.denied, contexts, clauses),
     };
-    let naive = closure(rt.alloc(), case)?;
+    let naive = closure(case);
     let compared = compare(case, &naive, told, Tables { contexts, clauses }, model);
-    print_told(rt, told, model.first().copied())?;
-    print_difference(rt, compared)
+    print_line(rt, told, model.first().copied(), Compared(compared))
 }
 
 /// Makes the call of a case with tables of its own.

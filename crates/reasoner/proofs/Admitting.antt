@@ -1,5 +1,8 @@
 -- What an ask tells once its question is admitted.
-use Rattle.std.proofs.Common.{◌≡◌, ℕ, List, subst, inr}
+use Rattle.std.proofs.Common.{◌≡◌, ℕ, ◌≤◌, List, [], ◌∷◌, subst, inr, arith}
+use Rattle.std.specs.List.{AllByRecursion}
+use Rattle.terms.specs.Axioms.{Declared, WellFormed}
+use Rattle.terms.specs.declared.axioms.Axiom.TheVariants.{Inclusion, Exists, ExistsLower, Forall, RoleInclusion}
 use Rattle.terms.specs.Refusals.{Told, done, refused, end, check, Passes, Answers}
 use Rattle.terms.specs.declared.class_set.ClassSet.{ClassSet}
 use Rattle.terms.specs.declared.axioms.Axiom.{Axiom}
@@ -8,6 +11,21 @@ use Rattle.tables.specs.declared.records.ContextRecord.{ContextRecord}
 use Rattle.tables.specs.declared.records.ClauseRecord.{ClauseRecord}
 use Rattle.reasoner.specs.Asks.{in_ask, goal_of, FitsInto, admit_checks, ask_checks, NoTable, Right, TablesAfter}
 use Rattle.reasoner.specs.declared.answer.Answer.{Answer}
+
+-- ---- higher limits
+
+declared_up : {c r d s : ℕ} → c ≤ d → r ≤ s → (x : Axiom) → Declared c r x → Declared d s x
+declared_up l k (Inclusion L M) p = (λ a h. omega (arith, p.0 a h), λ a h. omega (arith, p.1 a h))
+declared_up l k (Exists a p b) q = (omega (arith, q.0), omega (arith, q.1), omega (arith, q.2))
+declared_up l k (ExistsLower p a b) q = (omega (arith, q.0), omega (arith, q.1), omega (arith, q.2))
+declared_up l k (Forall a p b) q = (omega (arith, q.0), omega (arith, q.1), omega (arith, q.2))
+declared_up l k (RoleInclusion p q) h = (omega (arith, h.0), omega (arith, h.1))
+
+pub formed_up : {c r d s : ℕ} → c ≤ d → r ≤ s → (axs : List Axiom) → AllByRecursion (WellFormed c r) axs → AllByRecursion (WellFormed d s) axs
+formed_up l k [] p = tt
+formed_up l k (x ∷ axs) p = ((declared_up l k x p.0.0, p.0.1), formed_up l k axs p.1)
+
+-- ---- the checks
 
 module _ (m : Meaning) (P N : ClassSet) (k l : ℕ) (B : Type 0) where
   -- what passes goes on to the closure

@@ -9,7 +9,7 @@ ghost use Rattle.roles.specs.Reaching.{Shows};
 ghost use Rattle.reasoner.specs.Asks.{in_ask, goal_of, FitsInto, admit_checks, ask_checks, NoTable, RowEach, Right, Unshown, Numbered, TablesAfter, ModelAfter};
 
 use crate::answer::Answer;
-use crate::loading::load;
+use crate::loading::{blank, load};
 use crate::settling::is_refuted;
 use models::write_model;
 use roles::Reach;
@@ -88,18 +88,15 @@ fn fill_with_model(
     }
 }
 
-/// Checks the question and the sizes of the two tables, and puts the source's axioms into the slots.
+/// Checks the question and the sizes of the two tables, before anything of the source's list is read.
 // The two sizes are numbers of slots, and not of slots used as `Counts` are.
-fn admit<'a, S: Source>(
+fn admit<S: Source>(
     source: &S,
     goal: ContextRecord,
     contexts: usize,
     clauses: usize,
-    slots: &'a mut [Axiom],
-) -> Result<&'a [Axiom], Fault>
-    requires { 1024 ≤ length slots.old }
-    ensures { Answers (admit_checks (S.Source.meaning source.now).classes goal.held goal.denied contexts clauses NoTable) 0 in_ask
-        (λ axioms. axioms.now ≡ (S.Source.meaning source.now).axioms) (told result) }
+) -> Result<(), Fault>
+    ensures { Answers (admit_checks (S.Source.meaning source.now).classes goal.held goal.denied contexts clauses NoTable) 0 in_ask (λ _. Unit {0}) (told result) }
 {
     let classes = source.class_count();
     if !goal.held.is_below(classes) || !goal.denied.is_below(classes) {
@@ -108,7 +105,7 @@ fn admit<'a, S: Source>(
     if contexts > MOST_CONTEXTS || clauses > MOST_CLAUSES {
         return Err(Refusal::TableSize.at(0, Layer::Ask));
     }
-    Ok(load(source, slots))
+    Ok(())
 }
 
 /// Asks whether some world that obeys the source's axioms has an element in all held and no denied classes.
@@ -127,8 +124,9 @@ pub fn ask<S: Source>(
     ensures after { TablesAfter (S.Source.meaning source.now).axioms (goal_of held denied) contexts.old clauses.old contexts.new clauses.new (told result) }
 {
     let goal = ContextRecord { held, denied };
-    let mut slots = [Axiom::default(); MOST_AXIOMS];
-    let axioms = admit(source, goal, contexts.len(), clauses.len(), &mut slots)?;
+    admit(source, goal, contexts.len(), clauses.len())?;
+    let mut slots = [blank(); MOST_AXIOMS];
+    let axioms = load(source, &mut slots);
     fill(axioms, &Reach::of(axioms), contexts, clauses, goal)
 }
 
@@ -150,10 +148,11 @@ pub fn ask_model<S: Source>(
     let goal = ContextRecord { held, denied };
     let roles = source.role_count();
     let width = ModelTable::row_words(roles);
-    let mut slots = [Axiom::default(); MOST_AXIOMS];
-    let axioms = admit(source, goal, contexts.len(), clauses.len(), &mut slots)?;
+    admit(source, goal, contexts.len(), clauses.len())?;
     if contexts.len() * width > model.len() {
         return Err(Refusal::TableSize.at(0, Layer::Ask));
     }
+    let mut slots = [blank(); MOST_AXIOMS];
+    let axioms = load(source, &mut slots);
     fill_with_model(axioms, roles, contexts, clauses, model, goal)
 }

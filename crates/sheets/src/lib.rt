@@ -10,6 +10,7 @@ mod item;
 mod name;
 mod opening;
 mod reading;
+mod statement;
 mod tag;
 
 pub use contents::Sheet;

@@ -11,6 +11,7 @@ use crate::field::Reader;
 use crate::item::Item;
 use crate::name;
 use crate::name::Name;
+use crate::statement::Statement;
 use arrayvec::ArrayVec;
 use sources::Source;
 use terms::{Axiom, Fault, Layer, Refusal};
@@ -66,7 +67,7 @@ impl Sheet {
     {
         axiom.check(self.class_count(), self.role_count(), place, Layer::Sheet)?;
         self.axioms
-            .try_push(axiom)
+            .try_push(Statement::of(axiom))
             .map_err(|_| Refusal::TooMany.at(place, Layer::Sheet))
     }
 

@@ -62,7 +62,7 @@ impl Source for Sheet {
     fn axiom_at(&self, number: usize) -> Result<Axiom, Fault> {
         self.axioms
             .get(number)
-            .copied()
+            .map(|statement| statement.said())
             .ok_or(Layer::Sheet.past_end())
     }
 

@@ -7,7 +7,7 @@ use Rattle.tables.specs.declared.entering.Full.{Full}
 use Rattle.tables.specs.declared.members.Counts.{Counts}
 use Rattle.tables.specs.Entering.{Holds, Among, Entered, Refused}
 use Rattle.tables.specs.Tables.{Tables, tables, Member, a_context, a_clause, blank, context_of, context_in, clause_of, Cites, In, Good}
-use Rattle.tables.specs.Adding.{Extends, Grows, Adds, Stuck, Ends, Below}
+use Rattle.tables.specs.Adding.{Extends, Grows, Adds, Stuck, Ends, Enters, Below}
 use Rattle.tables.proofs.Slots.{at_or_below, holds_one, holds_get_or, among_upto, among_kept, extends_refl, extends_then}
 use Rattle.tables.proofs.Entries.{entered_fits, entered_extends, entered_there, entered_only, entered_apart}
 use Rattle.tables.proofs.Meanings.{clause_of_kept, cites_upto, context_of_one, clause_of_one}
@@ -175,6 +175,12 @@ module _ {C : Member → Type 0} {X : Type 0} (s u : Tables) where
   pub ends_stuck : (P : Full → Type 0) (r : Result X Full) → IsErrAnd r P → Stuck C s u → Ends C s u r
   ends_stuck P (Ok n) e p = absurd e
   ends_stuck P (Err f) e p = p
+
+-- the same of a call that answers with its counts
+pub enters_then : {C D E : Member → Type 0} {s v : Tables} (u : Counts → Tables) (r : Result Counts Full) → Adds C s v → Enters D v u r
+    → ((m : Member) → E m → C m ⊎ D m) → ((m : Member) → C m → E m) → ((m : Member) → D m → E m) → Enters E s u r
+enters_then u (Ok n) p q split left right = adds_then p q split left right
+enters_then u (Err f) p q split left right = (q.0, stuck_then p q.1 left right)
 
 -- ---- a loop over the slots of a list: what those below k give is there, then what slot k gives is added
 

@@ -1,21 +1,40 @@
 //! Entering records into a table, each once.
-ghost use Rattle.std.specs.Prelude.{◌≡◌, ◌≤◌, ◌↔◌, length, position, true, MatchResult};
+ghost use Rattle.std.specs.Prelude.{◌≡◌, ◌<◌, ◌≤◌, ◌↔◌, length, true, Decides, MatchOption, MatchResult};
 ghost use Rattle.std.proofs.Common.{rules};
-ghost use Rattle.tables.specs.Entering.{Entered, Refused};
+ghost use Rattle.tables.specs.Entering.{Holds, Among, Entered, Refused};
 
 use crate::records::{ClauseRecord, ContextRecord};
 
+/// Values of which two can be compared.
+pub trait Same {
+    /// Whether the two are the same.
+    fn same(&self, other: &Self) -> bool
+        ensures { Decides result (self.now ≡ other.now) };
+}
+
 /// Values of which `==` says whether they are the same.
-pub trait Same: PartialEq {
+pub trait Exact: PartialEq {
     ghost decides: { (a b : Self) → Self.eq a b ≡ true ↔ a ≡ b };
 }
 
-impl Same for ContextRecord {
+impl Exact for ContextRecord {
     ghost decides = { Prim.search rules };
 }
 
-impl Same for ClauseRecord {
+impl Exact for ClauseRecord {
     ghost decides = { Prim.search rules };
+}
+
+impl Same for ContextRecord {
+    fn same(&self, other: &Self) -> bool {
+        self == other
+    }
+}
+
+impl Same for ClauseRecord {
+    fn same(&self, other: &Self) -> bool {
+        self == other
+    }
 }
 
 /// There was no slot left.
@@ -30,10 +49,16 @@ pub struct Place {
 }
 
 /// The first slot that holds the record.
+// By slot: what `position` finds is told of a test that is a function, and `same` is any test that decides.
 fn find<R: Same + Copy>(slots: &[R], record: R) -> Option<usize>
-    ensures { result ≡ position (λ x. R.eq x «record») slots.now }
+    ensures { MatchOption result (Among slots.now (length slots.now) «record» → ⊥) (λ slot. (slot < length slots.now) × Holds slots.now slot «record» × (Among slots.now slot «record» → ⊥)) }
 {
-    slots.iter().position(|held| *held == record)
+    for i in 0..slots.len() {
+        if slots[i].same(&record) {
+            return Some(i);
+        }
+    }
+    None
 }
 
 /// Finds the record among the first `used` slots, or puts it into the next one; where no slot is left, the table stays as it was.

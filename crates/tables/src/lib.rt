@@ -12,9 +12,9 @@ pub mod lent;
 pub mod members;
 pub mod records;
 
-pub use entering::{Full, Place, Same, enter};
+pub use entering::{Exact, Full, Place, Same, enter};
 pub use lent::LentTables;
-pub use members::Counts;
+pub use members::{ContextPlace, Counts, enter_clause, enter_context, enter_toward};
 pub use records::{ClauseRecord, ContextRecord, RolePart};
 
 /// Good tables have each member once. Where they were filled with the closure, their counts are its numbers of contexts and clauses;

@@ -9,6 +9,7 @@ use Rattle.std.proofs.lemmas.Iterator.{YieldsList}
 use Rattle.std.proofs.lemmas.Iterator.Consumers.{YieldsList-from_first}
 use Rattle.worlds.specs.declared.link.Link.{Link}
 use Rattle.worlds.specs.declared.chains.LinksOf.{LinksOf}
+use Rattle.worlds.specs.Slots.{number_in}
 use Rattle.worlds.specs.Entries.{no_link, latest, Last, Chained, links_from, chain}
 
 module _ (xs : List Link) where
@@ -125,5 +126,5 @@ module _ (xs : List Link) where
   ]
 
 -- the links that are left are those of the chain
-pub yields_links : {s : LinksOf} (xs : List Link) → chain s.chains.now.links.now s.at ≡ xs → YieldsList (YieldsFirst (λ s. chain s.chains.now.links.now s.at)) (λ x. x) s xs
-yields_links xs e = YieldsList-from_first (λ x. x) (λ s. chain s.chains.now.links.now s.at) xs e
+pub yields_links : {s : LinksOf} (xs : List Link) → chain s.chains.now.links.now (number_in s.at) ≡ xs → YieldsList (YieldsFirst (λ s. chain s.chains.now.links.now (number_in s.at))) (λ x. x) s xs
+yields_links xs e = YieldsList-from_first (λ x. x) (λ s. chain s.chains.now.links.now (number_in s.at)) xs e

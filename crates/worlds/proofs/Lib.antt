@@ -5,3 +5,4 @@ pub mod Chaining
 pub mod Joins
 pub mod Successors
 pub mod Findings
+pub mod Slots

@@ -1,23 +1,25 @@
 //! For each element, its links one after the other.
 ghost use Rattle.std.specs.Prelude.{◌≡◌, ℕ, ◌<◌, ◌≤◌, Some, None, length, slice_index_or};
 ghost use Rattle.std.specs.Iterator.{YieldsFirst, item_count};
+ghost use Rattle.worlds.specs.Slots.{number_in, numbers_in};
 ghost use Rattle.worlds.specs.Entries.{Chained, Last, chain, links_from, no_link};
 
 use crate::link::Link;
 
 /// The number of a link, or none, for each of so many.
+// One more than the number, with 0 for none: an option has a tag of its own and takes twice the room.
 #[derive(Clone, Copy)]
 pub struct Numbers<const N: usize> {
-    items: [Option<u16>; N],
+    items: [u16; N],
     ghost ok: { length items ≡ N },
 }
 
 impl<const N: usize> Numbers<N> {
     /// None for each.
     fn new() -> Self
-        ensures { (j : ℕ) → slice_index_or result.items j None ≡ None }
+        ensures { (j : ℕ) → slice_index_or (numbers_in result.items) j None ≡ None }
     {
-        Numbers { items: [None; N] }
+        Numbers { items: [0; N] }
     }
 }
 
@@ -31,8 +33,8 @@ pub struct Chains<'a> {
     previous: Numbers<16384>,
     ghost few: { length links.now ≤ 16384 },
     ghost starts: { (i : ℕ) → i < length links.now → (slice_index_or links.now i no_link).from < 4096 },
-    ghost lasts: { Last links.now last.items (length links.now) },
-    ghost chained: { Chained links.now previous.items (length links.now) },
+    ghost lasts: { Last links.now (numbers_in last.items) (length links.now) },
+    ghost chained: { Chained links.now (numbers_in previous.items) (length links.now) },
 }
 
 impl<'a> Chains<'a> {
@@ -47,7 +49,7 @@ impl<'a> Chains<'a> {
         for (i, link) in links.iter().enumerate() {
             let from = link.from as usize;
             previous.items[i] = last.items[from];
-            last.items[from] = Some(i as u16);
+            last.items[from] = i as u16 + 1;
         }
         Chains {
             links,
@@ -58,11 +60,11 @@ impl<'a> Chains<'a> {
 
     /// The links from an element, from the last to the first.
     pub fn links_of<'c>(&'c self, element: u32) -> LinksOf<'c, 'a>
-        ensures { chain result.chains.now.links.now result.at ≡ links_from self.now.links.now element (length self.now.links.now) }
+        ensures { chain result.chains.now.links.now (number_in result.at) ≡ links_from self.now.links.now element (length self.now.links.now) }
     {
         LinksOf {
             chains: self,
-            at: self.last.items.get(element as usize).copied().flatten(),
+            at: self.last.items.get(element as usize).copied().unwrap_or(0),
         }
     }
 }
@@ -71,19 +73,20 @@ impl<'a> Chains<'a> {
 #[derive(Drop)]
 pub struct LinksOf<'c, 'a> {
     chains: &'c Chains<'a>,
-    at: Option<u16>,
-    ghost ok: { (k : ℕ) → at ≡ Some k → k < length chains.now.links.now },
+    // One more than the number of the next link, or 0 at the end.
+    at: u16,
+    ghost ok: { (k : ℕ) → number_in at ≡ Some k → k < length chains.now.links.now },
 }
 
 impl<'c, 'a> Iterator for LinksOf<'c, 'a> {
     type Item = Link;
 
-    ghost remaining = { item_count (λ s. chain s.chains.now.links.now s.at) };
+    ghost remaining = { item_count (λ s. chain s.chains.now.links.now (number_in s.at)) };
 
-    ghost next_gives = { YieldsFirst (λ s. chain s.chains.now.links.now s.at) };
+    ghost next_gives = { YieldsFirst (λ s. chain s.chains.now.links.now (number_in s.at)) };
 
     fn next(&mut self) -> Option<Link> {
-        let number = usize::from(self.at?);
+        let number = usize::from(self.at.checked_sub(1)?);
         self.at = self.chains.previous.items[number];
         Some(self.chains.links[number])
     }

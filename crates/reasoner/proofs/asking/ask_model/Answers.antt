@@ -14,10 +14,11 @@ returns g c =
     let same = ap (λ x. k * x) (c.row_words-width.ensures ∙ ap (λ r. 1 + 4 * r) c.role_count-roles.ensures) in
     let P = c.args.held in
     let N = c.args.denied in
-    let p = c.in_ok-axioms.ensures in
+    let p = c.in_ok-admit.ensures.0 in
+    let e = c.load-axioms.ensures in
     let t = told c.fill_with_model.result in
     record {
-      gives = then_answers m P N k l (RowEach m.roles k w) (omega (arith, same, c.if-contexts-width.false)) (λ a. Right m.axioms P N a × Numbered a) t p.0 (answers_of P N p.1 Numbered k l t c.fill_with_model.ensures.gives);
-      after = tables_of P N p.1 _ _ _ _ t c.fill_with_model.ensures.after;
-      shows = c.fill_with_model.ensures.shows m (sym c.role_count-roles.ensures) (sym p.1) limits.formed p.0.0.0 p.0.0.1;
+      gives = then_answers m P N k l (RowEach m.roles k w) (omega (arith, same, c.if-contexts-width.false)) (λ a. Right m.axioms P N a × Numbered a) t p (answers_of P N e Numbered k l t c.fill_with_model.ensures.gives);
+      after = tables_of P N e _ _ _ _ t c.fill_with_model.ensures.after;
+      shows = c.fill_with_model.ensures.shows m (sym c.role_count-roles.ensures) (sym e) limits.formed p.0.0 p.0.1;
     }
